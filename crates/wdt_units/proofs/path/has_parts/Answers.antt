@@ -1,0 +1,12 @@
+use Rattle.std.proofs.Common.{rules, tests, ◌==◌}
+use Rattle.std.proofs.lemmas.Iterator.Search.{all_from_yields_List}
+use Rattle.std.proofs.lemmas.Iterator.Splits.{YieldsList-from_slice_split}
+use Rattle.wdt_units.specs.Path.{is_part, has_parts}
+use Rattle.wdt_units.proofs.path.has_parts.Goals as goal
+
+pub returns : goal.returns
+unfolding has_parts
+returns c =
+    all_from_yields_List is_part _ _ _ c.all.ensures.ran
+    (YieldsList-from_slice_split _ (λ b. b == 47) c.args.bytes.now c.split.ensures.rest c.split.ensures.done c.split.ensures.closure (λ x r q k. search (rules, tests)))
+    (λ x b q k. search (rules, tests))

@@ -1,0 +1,7 @@
+pub mod Counts
+pub mod Have
+pub mod Inputs
+pub mod Memory
+pub mod Path
+pub mod Sinks
+pub mod Tree

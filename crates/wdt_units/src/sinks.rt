@@ -1,0 +1,112 @@
+//! Where the lines of a run are put.
+ghost use Rattle.std.specs.Prelude.{◌≡◌, ℕ, List, Option, Some, None, []};
+ghost use Rattle.wdt_units.specs.Counts.{HasCause};
+ghost use Rattle.wdt_units.specs.Memory.{written_in};
+ghost use Rattle.wdt_units.specs.Sinks.{Puts};
+
+use crate::failures::Failed;
+use std::alloc::Global;
+use std::io::{self, Write};
+
+/// A sink of bytes.
+pub trait Sink {
+    /// What was written, where told.
+    ghost written: { Self → Option (List ℕ) };
+
+    /// How often a call failed. The count stops at 2^64 less 1.
+    ghost faults: { Self → ℕ };
+
+    /// Writes the bytes. Where it fails, a front of them was written.
+    fn put(&mut self, bytes: &[u8]) -> Result<(), Failed>
+        ensures bytes { Puts bytes.now result (written self.old) (written self.new) }
+        ensures cause { HasCause result (faults self.old) (faults self.new) };
+}
+
+/// A sink in memory. Calls are numbered from 1, and those whose numbers it is given fail, as does
+/// one that finds no memory for its bytes. A call that fails writes nothing.
+#[derive(Debug, Drop)]
+pub struct MemSink {
+    bytes: Vec<u8>,
+    fails: Vec<u32>,
+    calls: u32,
+    faults: u64,
+}
+
+impl MemSink {
+    pub fn of(alloc: Global, fails: Vec<u32>) -> MemSink
+        ensures { written_in result ≡ [] }
+    {
+        MemSink {
+            bytes: Vec::new(alloc),
+            fails,
+            calls: 0,
+            faults: 0,
+        }
+    }
+
+    /// What was written so far.
+    pub fn bytes(&self) -> &[u8]
+        ensures { result.now ≡ written_in self.now }
+    {
+        &self.bytes
+    }
+}
+
+impl Sink for MemSink {
+    ghost written = { λ s. Some (written_in s) };
+
+    ghost faults = { λ s. s.faults };
+
+    fn put(&mut self, bytes: &[u8]) -> Result<(), Failed> {
+        self.calls = self.calls.saturating_add(1);
+        if !self.fails.contains(&self.calls) && self.bytes.extend_from_slice(bytes).is_ok() {
+            return Ok(());
+        }
+        self.faults = self.faults.saturating_add(1);
+        Err(Failed)
+    }
+}
+
+/// Std's writer as a sink. It tells nothing of its bytes, and flushes them at each call.
+#[derive(Drop)]
+pub struct ToWrite<W: Write + Drop> {
+    writer: W,
+    faults: u64,
+    fault: Option<io::Error>,
+}
+
+impl<W: Write + Drop> ToWrite<W> {
+    pub fn of(writer: W) -> ToWrite<W> {
+        ToWrite {
+            writer,
+            faults: 0,
+            fault: None,
+        }
+    }
+
+    /// The system's reason for the last fault.
+    pub fn fault(&self) -> Option<&io::Error> {
+        self.fault.as_ref()
+    }
+}
+
+impl<W: Write + Drop> Sink for ToWrite<W> {
+    ghost written = { λ _. None };
+
+    ghost faults = { λ s. s.faults };
+
+    fn put(&mut self, bytes: &[u8]) -> Result<(), Failed> {
+        let written = match self.writer.write_all(bytes) {
+            Ok(()) => self.writer.flush(),
+            Err(error) => Err(error),
+        };
+        match written {
+            Ok(()) => Ok(()),
+            Err(error) => {
+                self.faults = self.faults.saturating_add(1);
+                self.fault = Some(error);
+                Err(Failed)
+            }
+        }
+    }
+}
