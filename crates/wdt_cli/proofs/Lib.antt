@@ -1,0 +1,4 @@
+pub mod Complete
+pub mod Landed
+pub mod Listed
+pub mod Pieces

@@ -1,0 +1,63 @@
+-- Why a run ended early.
+use Rattle.std.specs.Prelude.{◌≡◌, ℕ, List, map, Option, Some, None, IfSome}
+use Rattle.wdt_units.specs.Counts.{Rises}
+use Rattle.wdt_tree.specs.declared.entry.RawEntry.{RawEntry}
+use Rattle.wdt_tree.specs.declared.entry.Entry.{Entry}
+use Rattle.wdt_tree.specs.declared.manifest.ManifestFail.{ManifestFail}
+use Rattle.wdt_tree.specs.declared.manifest.ManifestFail.TheVariants as fail
+use Rattle.wdt_tree.specs.Listing.{entry_of, IsRefused}
+use Rattle.wdt_cli.specs.declared.status.RefusedKind.{RefusedKind}
+use Rattle.wdt_cli.specs.declared.status.RefusedKind.TheVariants.{BadPath, Reserved, TooMany, TooLarge}
+use Rattle.wdt_cli.specs.declared.status.Status.{Status}
+use Rattle.wdt_cli.specs.declared.status.Status.TheVariants.{Done, Refused, OutFault, NoMemory}
+use Rattle.wdt_cli.specs.declared.rehearse.Failure.{Failure}
+use Rattle.wdt_cli.specs.declared.rehearse.Failure.TheVariants as failure
+
+-- what the manifest says of a refused tree
+abbrev pub fail_of : RefusedKind → ManifestFail
+fail_of (BadPath at) = fail.BadPath at
+fail_of (Reserved at) = fail.Reserved at
+fail_of (TooMany count) = fail.TooMany count
+fail_of (TooLarge at) = fail.TooLarge at
+
+-- a listing is refused for this
+abbrev pub IsRefusedFor : List Entry → RefusedKind → Type 0
+IsRefusedFor entries kind = (raw : List RawEntry) × (map entry_of raw ≡ entries) × IsRefused raw (fail_of kind)
+
+-- a listing is refused for this, where it is told
+abbrev pub IsToldRefused : Option (List Entry) → RefusedKind → Type 0
+IsToldRefused listing kind = IfSome listing (λ entries. IsRefusedFor entries kind)
+
+-- a failure of a run for its cause
+abbrev pub IsCause : Option (List Entry) → ℕ → ℕ → Failure → Type 0
+IsCause listing before after failure.Source = Rises before after
+IsCause listing before after (failure.Refused kind) = IsToldRefused listing kind
+IsCause listing before after failure.NoMemory = Unit {0}
+
+abbrev pub IsNoRefusal : Status → Type 0
+IsNoRefusal (Refused kind) = ⊥
+IsNoRefusal other = Unit {0}
+
+-- no refusal holds: none of the told listing, or none was answered of an untold one
+abbrev pub IsUnrefused : Option (List Entry) → Status → Type 0
+IsUnrefused None status = IsNoRefusal status
+IsUnrefused (Some entries) status = (kind : RefusedKind) → IsRefusedFor entries kind → ⊥
+
+-- the run is done, or memory ran out
+abbrev pub IsDoneOrStarved : Status → Type 0
+IsDoneOrStarved Done = Unit {0}
+IsDoneOrStarved NoMemory = Unit {0}
+IsDoneOrStarved other = ⊥
+
+-- how the printing of a report ends
+abbrev pub IsReportEnd : Status → ℕ → ℕ → Type 0
+IsReportEnd Done before after = Unit {0}
+IsReportEnd NoMemory before after = Unit {0}
+IsReportEnd OutFault before after = Rises before after
+IsReportEnd other before after = ⊥
+
+-- how the printing of a refusal ends
+abbrev pub IsRefusalEnd : RefusedKind → Status → Type 0
+IsRefusalEnd kind (Refused other) = other ≡ kind
+IsRefusalEnd kind NoMemory = Unit {0}
+IsRefusalEnd kind other = ⊥

@@ -1,0 +1,6 @@
+pub mod Causes
+pub mod Failures
+pub mod Landing
+pub mod Lines
+pub mod Numbers
+pub mod Words

@@ -1,0 +1,186 @@
+//! What no clause says: that the runs succeed, and worked examples of their lines.
+ghost use Rattle.std.specs.Prelude.{None};
+
+use crate::status::{RefusedKind, Status};
+use crate::tool::tool;
+use std::alloc::Global;
+use std::process::Abort;
+use std::test::Fail;
+use wdt_source::{MemSource, Source, SourceFail};
+use wdt_tree::{Plain, RawEntry};
+use wdt_units::{MemSink, Name};
+
+fn words_of(alloc: Global, texts: &[&str]) -> Result<Vec<String>, Fail> {
+    let mut words = Vec::new(alloc);
+    for text in texts {
+        words.push(String::from_str(alloc, text)?)?;
+    }
+    Ok(words)
+}
+
+fn plain(alloc: Global, path: &str, bytes: &str) -> Result<Plain, Fail> {
+    Ok(Plain {
+        path: Name::read(alloc, path.as_bytes())?,
+        stamp: 0,
+        bytes: Vec::from_slice(alloc, bytes.as_bytes())?,
+    })
+}
+
+// The status and the lines of `rehearse SRC` on these files, which must land as they are.
+fn rehearse(
+    rt: &impl Abort,
+    alloc: Global,
+    files: Vec<Plain>,
+    sink_fails: Vec<u32>,
+) -> Result<(Status, MemSink), Fail> {
+    let count = files.len();
+    assert!(rt; count < 4_294_967_296);
+    let mut source = MemSource::of(files, Vec::new(alloc));
+    let mut out = MemSink::of(alloc, sink_fails);
+    let words = words_of(alloc, &["rehearse", "SRC"])?;
+    let tooled = tool(alloc, &words, &mut source, &mut out);
+    if tooled.status == Status::Done {
+        assert_eq!(rt; tooled.landed.len(), count);
+    }
+    Ok((tooled.status, out))
+}
+
+#[test]
+fn empty_tree_is_copied(rt: HostRuntime) -> Result<(), Fail> {
+    let (status, out) = rehearse(&rt, rt.alloc(), Vec::new(rt.alloc()), Vec::new(rt.alloc()))?;
+    assert_eq!(rt; status, Status::Done);
+    assert_eq!(rt;
+        out.bytes(),
+        b"files 0\nblocks 0\nbytes 0\nconnections 1\nrequeued 0\nclosed 0\nsessions 1\nok\n".as_slice()
+    );
+    Ok(())
+}
+
+#[test]
+fn one_file_is_copied_and_reported(rt: HostRuntime) -> Result<(), Fail> {
+    for (path, bytes, text) in [
+        (
+            "a",
+            "hi",
+            b"files 1\nblocks 1\nbytes 2\nconnections 1\nrequeued 0\nclosed 0\nsessions 1\nok\n".as_slice(),
+        ),
+        (
+            "e",
+            "",
+            b"files 1\nblocks 1\nbytes 0\nconnections 1\nrequeued 0\nclosed 0\nsessions 1\nok\n",
+        ),
+    ] {
+        let files = vec![in rt.alloc(); plain(rt.alloc(), path, bytes)?]?;
+        let (status, out) = rehearse(&rt, rt.alloc(), files, Vec::new(rt.alloc()))?;
+        assert_eq!(rt; status, Status::Done);
+        assert_eq!(rt; out.bytes(), text);
+    }
+    Ok(())
+}
+
+#[test]
+fn a_failing_sink_is_answered(rt: HostRuntime) -> Result<(), Fail> {
+    let files = vec![in rt.alloc(); plain(rt.alloc(), "a", "hi")?]?;
+    let (status, out) = rehearse(&rt, rt.alloc(), files, vec![in rt.alloc(); 1u32]?)?;
+    assert_eq!(rt; status, Status::OutFault);
+    assert_eq!(rt; out.bytes(), b"".as_slice());
+    Ok(())
+}
+
+#[test]
+fn other_words_are_usage(rt: HostRuntime) -> Result<(), Fail> {
+    let forms: [&[&str]; 6] = [
+        &["rehearse"],
+        &["rehearse", "SRC", "--lanes", "17"],
+        &["rehearse", "SRC", "--block", "08"],
+        &["rehearse", "-SRC"],
+        &[],
+        &["copie", "SRC", "DST"],
+    ];
+    for words in forms {
+        let words = words_of(rt.alloc(), words)?;
+        let mut source = MemSource::of(Vec::new(rt.alloc()), Vec::new(rt.alloc()));
+        let mut out = MemSink::of(rt.alloc(), Vec::new(rt.alloc()));
+        let tooled = tool(rt.alloc(), &words, &mut source, &mut out);
+        assert_eq!(rt; tooled.status, Status::Usage);
+        assert_eq!(rt; out.bytes(), b"usage\n".as_slice());
+    }
+    Ok(())
+}
+
+// A source that lists paths of any kind, each of an empty file.
+#[derive(Drop)]
+struct Paths {
+    paths: Vec<Vec<u8>>,
+}
+
+impl Source for Paths {
+    ghost told = { λ _. None };
+
+    ghost listing = { λ _. None };
+
+    ghost faults = { λ _. 18446744073709551615 };
+
+    ghost slips = { λ _. 0 };
+
+    fn list(&mut self, alloc: Global) -> Result<Vec<RawEntry>, SourceFail> {
+        let mut raw = Vec::new(alloc);
+        for path in &self.paths {
+            raw.push(RawEntry {
+                path: Vec::from_slice(alloc, path)?,
+                size: 0,
+                stamp: 0,
+            })?;
+        }
+        if raw.len() < 4_294_967_296 {
+            return Ok(raw);
+        }
+        Err(SourceFail::Failed)
+    }
+
+    fn read_exact_at(&mut self, _: &Name, _: u64, _: &mut [u8]) -> Result<(), SourceFail> {
+        Err(SourceFail::Failed)
+    }
+
+    ghost told_is_tree = { λ _. tt };
+
+    ghost told_is_listed = { λ _. tt };
+}
+
+#[test]
+fn paths_are_refused_at_their_place(rt: HostRuntime) -> Result<(), Fail> {
+    let long = [b'a'; 1025];
+    for (path, status, line) in [
+        (
+            b"x/../y".as_slice(),
+            Status::Refused(RefusedKind::BadPath { at: 0 }),
+            b"refused: bad path 0\n".as_slice(),
+        ),
+        (
+            b".wlog",
+            Status::Refused(RefusedKind::Reserved { at: 0 }),
+            b"refused: reserved 0\n",
+        ),
+        (
+            &long,
+            Status::Refused(RefusedKind::BadPath { at: 0 }),
+            b"refused: bad path 0\n",
+        ),
+        (
+            &long[..1024],
+            Status::Done,
+            b"files 1\nblocks 1\nbytes 0\nconnections 1\nrequeued 0\nclosed 0\nsessions 1\nok\n",
+        ),
+    ] {
+        let path = Vec::from_slice(rt.alloc(), path)?;
+        let mut source = Paths {
+            paths: vec![in rt.alloc(); path]?,
+        };
+        let mut out = MemSink::of(rt.alloc(), Vec::new(rt.alloc()));
+        let words = words_of(rt.alloc(), &["rehearse", "SRC"])?;
+        let tooled = tool(rt.alloc(), &words, &mut source, &mut out);
+        assert_eq!(rt; tooled.status, status);
+        assert_eq!(rt; out.bytes(), line);
+    }
+    Ok(())
+}

@@ -1,0 +1,54 @@
+//! What went wrong outside, in words for a person.
+use std::alloc::{AllocError, AllocFailed};
+use std::fmt;
+use std::io::{self, ErrorKind};
+
+/// What was being done, to which path, and the system's reason.
+#[derive(Debug, Drop)]
+pub struct Fault {
+    doing: &'static str,
+    path: String,
+    reason: io::Error,
+}
+
+impl fmt::Display for Fault {
+    fn fmt<W: fmt::Write>(&self, f: &mut fmt::Formatter<W>) -> fmt::Result {
+        let doing = self.doing;
+        let path = self.path.as_str();
+        let reason = &self.reason;
+        write!(f, "{doing} {path}: {reason}")
+    }
+}
+
+/// Why a call to the outside gave nothing.
+#[derive(Debug, Drop)]
+pub enum Trouble {
+    Fault(Fault),
+    NoMemory,
+}
+
+impl Trouble {
+    /// The trouble that a reason of the system is. Its want of memory is no fault.
+    pub fn of(doing: &'static str, path: String, reason: io::Error) -> Trouble {
+        if reason.kind() == ErrorKind::OutOfMemory {
+            return Trouble::NoMemory;
+        }
+        Trouble::Fault(Fault {
+            doing,
+            path,
+            reason,
+        })
+    }
+}
+
+impl From<AllocError> for Trouble {
+    fn from(_: AllocError) -> Trouble {
+        Trouble::NoMemory
+    }
+}
+
+impl<T: Drop> From<AllocFailed<T>> for Trouble {
+    fn from(_: AllocFailed<T>) -> Trouble {
+        Trouble::NoMemory
+    }
+}
