@@ -1,30 +1,31 @@
--- A told tree and what its source lists of it.
-use Rattle.std.proofs.Common.{◌≡◌, ℕ, zero, suc, ◌<◌, ◌≤◌, List, [], ◌∷◌, length, map, Option, Some, None, IfSome, get_or, refl, sym, ap, ◌∙◌, arith}
-use Rattle.std.specs.List.{Contains}
+-- A told tree, and what a check keeps of its listing.
+use Rattle.std.proofs.Common.{◌≡◌, ℕ, Bool, true, ◌&&◌, List, [], ◌∷◌, map, Option, Some, None, IfSome, IsTrue, refl, sym, ap, ◌∙◌, subst}
+use Rattle.std.specs.List.{list_all}
 use Rattle.std.specs.List.Sorted.{IsPermutation}
-use Rattle.std.proofs.lemmas.List.{length-map, nil_from_length}
-use Rattle.std.proofs.lemmas.List.Sorted.{Contains-permutation, length_permutation}
-use Rattle.wdt_units.specs.Tree.{File}
+use Rattle.std.proofs.lemmas.List.Sorted.{IsPermutation-trans}
+use Rattle.wdt_units.specs.Tree.{File, is_tree, is_rising, is_below}
 use Rattle.wdt_tree.specs.declared.entry.Entry.{Entry}
 use Rattle.wdt_tree.specs.declared.entry.RawEntry.{RawEntry}
-use Rattle.wdt_tree.specs.Listing.{entry_of}
+use Rattle.wdt_tree.specs.Listing.{entry_of, is_in_order, is_below_entry, Orders}
 use Rattle.wdt_tree.specs.Shown.{entry_of_file}
+use Rattle.wdt_tree.proofs.Files.{rising}
 use Rattle.wdt_source.specs.Told.{IsListed}
+use Rattle.wdt_cli.proofs.Unique.{one-order}
 
--- a list of one item at most has one order
-short : (xs ys : List Entry) → IsPermutation xs ys → length ys ≤ 1 → xs ≡ ys
-short xs [] p le = nil_from_length xs (sym (length_permutation xs [] p))
-short [] (y ∷ ys) p le = absurd (omega (arith, length_permutation [] (y ∷ ys) p))
-short (x ∷ xs) (y ∷ z ∷ ys) p le = absurd (omega arith)
-short (x ∷ w ∷ xs) (y ∷ []) p le = absurd (omega (arith, length_permutation (x ∷ w ∷ xs) (y ∷ []) p))
-short (x ∷ []) (y ∷ []) p le = one (Contains-permutation (x ∷ []) (y ∷ []) x p (0, omega arith, refl))
-  where
-    one : Contains (y ∷ []) x → x ∷ [] ≡ y ∷ []
-    one (zero, lt, e) = ap (λ (z : Entry). z ∷ []) (sym e)
-    one (suc k, lt, e) = absurd (omega arith)
+all_below : (file : File) (files : List File) → list_all (is_below_entry (entry_of_file file)) (map entry_of_file files) ≡ list_all (is_below file) files
+all_below file [] = refl
+all_below file (x ∷ files) = ap (λ b. is_below file x && b) (all_below file files)
 
-pub told-listed : (told : Option (List File)) (listing : Option (List Entry)) (raw : List RawEntry) → IsListed told listing → IfSome listing (λ entries. map entry_of raw ≡ entries) → length raw ≤ 1
-    → IfSome told (λ files. map entry_of raw ≡ map entry_of_file files)
-told-listed None listing raw h is few = tt
-told-listed (Some files) None raw h is few = absurd h
-told-listed (Some files) (Some entries) raw h is few = is ∙ sym (short (map entry_of_file files) entries h (omega (arith, ap length is, length-map raw entry_of)))
+-- the entries of a rising list of files are in order
+in_order : (files : List File) → is_in_order (map entry_of_file files) ≡ is_rising files
+in_order [] = refl
+in_order (file ∷ files) = ap (λ b. b && is_in_order (map entry_of_file files)) (all_below file files) ∙ ap (λ b. list_all (is_below file) files && b) (in_order files)
+
+-- the manifest of a told tree's listing is that of the tree
+pub told-ordered : (told : Option (List File)) (listing : Option (List Entry)) (raw : List RawEntry) (entries : List Entry) → IfSome told (λ files. IsTrue (is_tree files)) → IsListed told listing
+    → IfSome listing (λ listed. map entry_of raw ≡ listed) → Orders (map entry_of raw) entries → IfSome told (λ files. entries ≡ map entry_of_file files)
+told-ordered None listing raw entries tree h is order = tt
+told-ordered (Some files) None raw entries tree h is order = absurd h
+told-ordered (Some files) (Some listed) raw entries tree h is order =
+    let whole : IsPermutation (map entry_of_file files) entries = IsPermutation-trans (map entry_of_file files) (map entry_of raw) entries (subst (IsPermutation (map entry_of_file files)) (sym is) h) order.same in
+    sym (one-order (map entry_of_file files) entries (in_order files ∙ rising files tree) order.rising whole)

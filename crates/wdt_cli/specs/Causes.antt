@@ -1,13 +1,12 @@
 -- Why a run ended early.
-use Rattle.std.specs.Prelude.{◌≡◌, ℕ, List, map, Option, Some, None, IfSome}
+use Rattle.std.specs.Prelude.{◌≡◌, ℕ, List, Result, Ok, Err, Option, Some, None, IfSome}
 use Rattle.wdt_units.specs.Counts.{Rises}
-use Rattle.wdt_tree.specs.declared.entry.RawEntry.{RawEntry}
 use Rattle.wdt_tree.specs.declared.entry.Entry.{Entry}
 use Rattle.wdt_tree.specs.declared.manifest.ManifestFail.{ManifestFail}
 use Rattle.wdt_tree.specs.declared.manifest.ManifestFail.TheVariants as fail
-use Rattle.wdt_tree.specs.Listing.{entry_of, IsRefused}
+use Rattle.wdt_tree.specs.Listing.{IsRefused}
 use Rattle.wdt_cli.specs.declared.status.RefusedKind.{RefusedKind}
-use Rattle.wdt_cli.specs.declared.status.RefusedKind.TheVariants.{BadPath, Reserved, TooMany, TooLarge}
+use Rattle.wdt_cli.specs.declared.status.RefusedKind.TheVariants.{BadPath, Reserved, Twice, TooMany, TooLarge}
 use Rattle.wdt_cli.specs.declared.status.Status.{Status}
 use Rattle.wdt_cli.specs.declared.status.Status.TheVariants.{Done, Refused, OutFault, NoMemory}
 use Rattle.wdt_cli.specs.declared.rehearse.Failure.{Failure}
@@ -17,12 +16,13 @@ use Rattle.wdt_cli.specs.declared.rehearse.Failure.TheVariants as failure
 abbrev pub fail_of : RefusedKind → ManifestFail
 fail_of (BadPath at) = fail.BadPath at
 fail_of (Reserved at) = fail.Reserved at
+fail_of (Twice at) = fail.Twice at
 fail_of (TooMany count) = fail.TooMany count
 fail_of (TooLarge at) = fail.TooLarge at
 
 -- a listing is refused for this
 abbrev pub IsRefusedFor : List Entry → RefusedKind → Type 0
-IsRefusedFor entries kind = (raw : List RawEntry) × (map entry_of raw ≡ entries) × IsRefused raw (fail_of kind)
+IsRefusedFor entries kind = IsRefused entries (fail_of kind)
 
 -- a listing is refused for this, where it is told
 abbrev pub IsToldRefused : Option (List Entry) → RefusedKind → Type 0
@@ -61,3 +61,10 @@ abbrev pub IsRefusalEnd : RefusedKind → Status → Type 0
 IsRefusalEnd kind (Refused other) = other ≡ kind
 IsRefusalEnd kind NoMemory = Unit {0}
 IsRefusalEnd kind other = ⊥
+
+-- a run was refused for this, or memory ran out
+abbrev pub RefusesRun : {A : Type 0} → Result A Failure → RefusedKind → Type 0
+RefusesRun (Ok run) kind = ⊥
+RefusesRun (Err failure.Source) kind = ⊥
+RefusesRun (Err (failure.Refused other)) kind = other ≡ kind
+RefusesRun (Err failure.NoMemory) kind = Unit {0}

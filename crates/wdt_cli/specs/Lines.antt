@@ -7,7 +7,7 @@ use Rattle.wdt_cli.specs.declared.report.Report.{Report}
 use Rattle.wdt_cli.specs.declared.status.Status.{Status}
 use Rattle.wdt_cli.specs.declared.status.Status.TheVariants.{Done, Usage, SourceFault, Refused, OutFault, NoMemory}
 use Rattle.wdt_cli.specs.declared.status.RefusedKind.{RefusedKind}
-use Rattle.wdt_cli.specs.declared.status.RefusedKind.TheVariants.{BadPath, Reserved, TooMany, TooLarge}
+use Rattle.wdt_cli.specs.declared.status.RefusedKind.TheVariants.{BadPath, Reserved, Twice, TooMany, TooLarge}
 
 -- how many blocks of 16,777,216 bytes and one shorter a file of this size has; an empty file has one
 abbrev pub blocks_in : ℕ → ℕ
@@ -28,6 +28,7 @@ done_text report = codes "files " ++ decimal report.files ++ codes "\nblocks " +
 abbrev pub refusal_of : RefusedKind → List ℕ
 refusal_of (BadPath at) = codes "bad path " ++ decimal at
 refusal_of (Reserved at) = codes "reserved " ++ decimal at
+refusal_of (Twice at) = codes "twice " ++ decimal at
 refusal_of (TooMany count) = codes "too many files " ++ decimal count
 refusal_of (TooLarge at) = codes "too large " ++ decimal at
 

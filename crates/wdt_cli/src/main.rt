@@ -97,6 +97,7 @@ fn explain_refusal<R: Files + AllocGlobal + Clone + Drop>(
             "the path is longer than 1,024 bytes or otherwise not lawful",
         ),
         RefusedKind::Reserved { at } => (at, "the path is one of the receiver's own files"),
+        RefusedKind::Twice { at } => (at, "the path is listed twice"),
         RefusedKind::TooLarge { at } => (
             at,
             "the file has more than 2^40 bytes, or those up to it have more than 2^50",

@@ -1,11 +1,12 @@
 //! A copy of a source's tree into memory.
 ghost use Rattle.std.specs.Prelude.{◌≡◌, ◌≤◌, ◌+◌, ◌^◌, ◌<◌, IfOk, IfSome, IfErr, length, map};
+ghost use Rattle.wdt_units.specs.Counts.{Stands};
 ghost use Rattle.wdt_units.specs.Tree.{file_of};
 ghost use Rattle.wdt_tree.specs.Shown.{shown, entry_of_file};
 ghost use Rattle.wdt_source.specs.Told.{HasFault};
 ghost use Rattle.wdt_cli.specs.Lines.{blocks_in, report_of};
 ghost use Rattle.wdt_cli.specs.Landing.{HasSize, HasBytes, counts_of};
-ghost use Rattle.wdt_cli.specs.Causes.{IsCause};
+ghost use Rattle.wdt_cli.specs.Causes.{IsCause, IsRefusedFor, RefusesRun};
 ghost use Rattle.wdt_cli.specs.Failures.{refusal_of};
 
 use crate::reading::read_block;
@@ -57,6 +58,8 @@ pub fn rehearse<S: Source>(alloc: Global, source: &mut S) -> Result<Rehearsed, F
     ensures tree { IfOk result (λ run. IfSome (S.told source.old) (λ files. map shown run.landed.items ≡ files)) }
     ensures later { S.faults source.old ≤ S.faults source.new }
     ensures cause { IfErr result (IsCause (S.listing source.old) (S.faults source.old) (S.faults source.new)) }
+    // Unless the source fails or memory runs out, a listing that is refused is refused for just that.
+    ensures refuses { IfSome (S.listing source.old) (λ entries. (kind : RefusedKind) → IsRefusedFor entries kind → Stands (S.faults source.old) (S.faults source.new) → RefusesRun result kind) }
     ensures slips { IfSome (S.told source.old) (λ files. S.slips source.new ≡ S.slips source.old) }
 {
     let raw = match source.list(alloc) {
@@ -83,6 +86,7 @@ fn refusal(fail: ManifestFail) -> Failure
         ManifestFail::TooMany { count } => Failure::Refused(RefusedKind::TooMany { count }),
         ManifestFail::BadPath { at } => Failure::Refused(RefusedKind::BadPath { at }),
         ManifestFail::Reserved { at } => Failure::Refused(RefusedKind::Reserved { at }),
+        ManifestFail::Twice { at } => Failure::Refused(RefusedKind::Twice { at }),
         ManifestFail::TooLarge { at } => Failure::Refused(RefusedKind::TooLarge { at }),
         ManifestFail::NoMemory => Failure::NoMemory,
     }

@@ -35,6 +35,7 @@ pub fn refusal_line(alloc: Global, kind: RefusedKind) -> Result<String, AllocErr
     match kind {
         RefusedKind::BadPath { at } => format!(in alloc; "refused: bad path {at}\n"),
         RefusedKind::Reserved { at } => format!(in alloc; "refused: reserved {at}\n"),
+        RefusedKind::Twice { at } => format!(in alloc; "refused: twice {at}\n"),
         RefusedKind::TooMany { count } => format!(in alloc; "refused: too many files {count}\n"),
         RefusedKind::TooLarge { at } => format!(in alloc; "refused: too large {at}\n"),
     }

@@ -8,7 +8,9 @@ pub enum RefusedKind {
     BadPath { at: u32 },
     /// The path at this place is one of the receiver's own files.
     Reserved { at: u32 },
-    /// There are this many files, more than a tree may have.
+    /// The path at this place stands at an earlier place, too.
+    Twice { at: u32 },
+    /// There are this many files, more than a tree may have: 262,144.
     TooMany { count: u32 },
     /// The file at this place has more than 2^40 bytes, or those up to it have more than 2^50.
     TooLarge { at: u32 },

@@ -150,32 +150,40 @@ impl Source for Paths {
 #[test]
 fn paths_are_refused_at_their_place(rt: HostRuntime) -> Result<(), Fail> {
     let long = [b'a'; 1025];
-    for (path, status, line) in [
+    let listings: [(&[&[u8]], Status, &[u8]); 5] = [
         (
-            b"x/../y".as_slice(),
-            Status::Refused(RefusedKind::BadPath { at: 0 }),
-            b"refused: bad path 0\n".as_slice(),
-        ),
-        (
-            b".wlog",
-            Status::Refused(RefusedKind::Reserved { at: 0 }),
-            b"refused: reserved 0\n",
-        ),
-        (
-            &long,
+            &[b"x/../y"],
             Status::Refused(RefusedKind::BadPath { at: 0 }),
             b"refused: bad path 0\n",
         ),
         (
-            &long[..1024],
+            &[b".wlog"],
+            Status::Refused(RefusedKind::Reserved { at: 0 }),
+            b"refused: reserved 0\n",
+        ),
+        (
+            &[&long],
+            Status::Refused(RefusedKind::BadPath { at: 0 }),
+            b"refused: bad path 0\n",
+        ),
+        (
+            &[b"a", b"a"],
+            Status::Refused(RefusedKind::Twice { at: 1 }),
+            b"refused: twice 1\n",
+        ),
+        (
+            &[&long[..1024]],
             Status::Done,
             b"files 1\nblocks 1\nbytes 0\nconnections 1\nrequeued 0\nclosed 0\nsessions 1\nok\n",
         ),
-    ] {
-        let path = Vec::from_slice(rt.alloc(), path)?;
+    ];
+    for (paths, status, line) in listings {
         let mut source = Paths {
-            paths: vec![in rt.alloc(); path]?,
+            paths: Vec::new(rt.alloc()),
         };
+        for path in paths {
+            source.paths.push(Vec::from_slice(rt.alloc(), path)?)?;
+        }
         let mut out = MemSink::of(rt.alloc(), Vec::new(rt.alloc()));
         let words = words_of(rt.alloc(), &["rehearse", "SRC"])?;
         let tooled = tool(rt.alloc(), &words, &mut source, &mut out);

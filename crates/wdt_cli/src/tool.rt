@@ -4,7 +4,7 @@ ghost use Rattle.wdt_units.specs.Counts.{Rises, Stands};
 ghost use Rattle.wdt_tree.specs.Shown.{shown};
 ghost use Rattle.wdt_cli.specs.Words.{folder_of};
 ghost use Rattle.wdt_cli.specs.Lines.{Prints, GotMost, report_of};
-ghost use Rattle.wdt_cli.specs.Causes.{IsToldRefused, IsUnrefused, IsDoneOrStarved, IsReportEnd, IsRefusalEnd};
+ghost use Rattle.wdt_cli.specs.Causes.{IsToldRefused, IsRefusedFor, IsUnrefused, IsDoneOrStarved, IsReportEnd, IsRefusalEnd};
 
 use crate::rehearse::{Failure, Rehearsed, rehearse};
 use crate::report::{done_text, refusal_line};
@@ -31,6 +31,9 @@ pub fn tool<S: Source, O: Sink>(
     ensures usage { result.status ≡ Status.Usage ↔ (folder_of (map string_bytes words.now) ≡ None) }
     ensures source_fault { result.status ≡ Status.SourceFault → Rises (S.faults source.old) (S.faults source.new) }
     ensures refused { (kind : RefusedKind) → result.status ≡ Status.Refused kind → IsToldRefused (S.listing source.old) kind }
+    // A listing that is refused is refused for just that, unless the source fails or memory runs out.
+    ensures refuses { IfSome (S.listing source.old) (λ entries. (kind : RefusedKind) → IsRefusedFor entries kind
+        → folder_of (map string_bytes words.now) ≢ None → Stands (S.faults source.old) (S.faults source.new) → IsRefusalEnd kind result.status) }
     ensures out_fault { result.status ≡ Status.OutFault → Rises (O.faults out.old) (O.faults out.new) }
 
     // Where there is no cause the run is done, or memory ran out.

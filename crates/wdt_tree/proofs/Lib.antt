@@ -1,2 +1,6 @@
 pub mod Files
+pub mod Order
 pub mod Scan
+pub mod Doubles
+pub mod Refusals
+pub mod Cuts

@@ -1,3 +1,5 @@
+pub mod Cuts
 pub mod Listing
+pub mod Rest
 pub mod Shown
 pub mod Told

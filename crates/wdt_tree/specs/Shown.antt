@@ -1,5 +1,5 @@
 -- Files of the code as files of a tree, and files of a tree as they are listed.
-use Rattle.std.specs.Prelude.{ℕ, List, length}
+use Rattle.std.specs.Prelude.{length}
 use Rattle.wdt_units.specs.Tree.{File}
 use Rattle.wdt_tree.specs.declared.entry.Plain.{Plain}
 use Rattle.wdt_tree.specs.declared.entry.Entry.{Entry}

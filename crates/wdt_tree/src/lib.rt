@@ -6,9 +6,13 @@
 #![tactic(auto)]
 
 mod entry;
+mod laws;
 mod manifest;
 mod run;
+#[cfg(test)]
+mod tests;
 
 pub use entry::{Entry, Plain, RawEntry};
+pub use laws::cuts_are_the_rest;
 pub use manifest::{Manifest, ManifestFail};
 pub use run::{Run, Untold};

@@ -1,1 +1,5 @@
 pub mod Lawful
+pub mod PathBytes
+pub mod PathFill
+pub mod PathParts
+pub mod Utf8Scan

@@ -15,6 +15,7 @@ mod inputs;
 mod limits;
 mod numbers;
 mod path;
+mod scan;
 mod sinks;
 
 pub use blocks::{Block, Header};
@@ -23,4 +24,5 @@ pub use inputs::{FromRead, Input, MemInput};
 pub use limits::{MAX_BLOCK, MAX_FILE_SIZE, MAX_FILES, MAX_PATH, MAX_TOTAL, PIECE};
 pub use numbers::{Conn, Lane, LaneSet, Spot};
 pub use path::{Name, NameFail};
+pub use scan::{PathScan, scan_on};
 pub use sinks::{MemSink, Sink, ToWrite};

@@ -1,13 +1,14 @@
 //! Lawful paths.
 ghost use Rattle.std.specs.Prelude.{◌≡◌, ◌↔◌, false, IfOk, OnOk, IsTrue, IsErrOf};
 ghost use Rattle.wdt_units.specs.declared.path.NameFail.TheVariants.{NoMemory as OutOfMemory};
-ghost use Rattle.wdt_units.specs.Path.{is_lawful, is_reserved, is_part, has_parts, is_shaped};
+ghost use Rattle.wdt_units.specs.Path.{is_lawful, is_reserved};
 
 use crate::failures::NoMemory;
 use crate::limits::MAX_PATH;
+use crate::scan::{PathScan, scan_on};
 use std::alloc::{AllocError, Global};
 use std::marker::Model;
-use std::str;
+use std::str::from_utf8_unchecked;
 use thiserror::Error;
 
 /// Why bytes made no name.
@@ -48,17 +49,29 @@ impl Model for Name {
 
 impl Name {
     /// The name that these bytes spell.
-    #[tactic(auto, using(crate::proofs::Lawful::lawful))]
     pub fn read(alloc: Global, bytes: &[u8]) -> Result<Name, NameFail>
         ensures value { IfOk result (λ name. name ≡ bytes.now) }
         ensures lawful { OnOk result (IsTrue (is_lawful bytes.now)) }
         ensures bad { IsErrOf result NameFail.Bad ↔ (is_lawful bytes.now ≡ false) }
     {
-        match str::from_utf8(bytes) {
-            Ok(text) if is_shaped(bytes) => Ok(Name {
-                text: String::from_str(alloc, text)?,
-            }),
-            _ => Err(NameFail::Bad),
+        if !is_lawful(bytes) {
+            return Err(NameFail::Bad);
+        }
+        match Name::of_lawful(alloc, bytes) {
+            Ok(name) => Ok(name),
+            Err(_) => Err(NameFail::NoMemory),
+        }
+    }
+
+    /// The name of bytes that are known to be a lawful path.
+    pub fn of_lawful(alloc: Global, bytes: &[u8]) -> Result<Name, NoMemory>
+        requires { IsTrue (is_lawful bytes.now) }
+        ensures { IfOk result (λ name. name ≡ bytes.now) }
+    {
+        // A lawful path is UTF-8, so its bytes are not read a second time.
+        match String::from_str(alloc, unsafe { from_utf8_unchecked(bytes) }) {
+            Ok(text) => Ok(Name { text }),
+            Err(_) => Err(NoMemory),
         }
     }
 
@@ -94,25 +107,24 @@ impl Name {
     }
 }
 
-#[tactic(auto, using(std::proofs::lemmas::Bool::Decides::nat_tests), unfolding(crate::specs::Path::is_shaped))]
-fn is_shaped(bytes: &[u8]) -> bool
-    ensures { result ≡ is_shaped bytes.now }
+// Whether the scan goes through all the bytes.
+fn is_lawful(bytes: &[u8]) -> bool
+    ensures { result ≡ is_lawful bytes.now }
 {
-    if bytes.is_empty() || bytes.len() > MAX_PATH || bytes.contains(&0) {
+    if bytes.is_empty() {
         return false;
     }
-    has_parts(bytes)
-}
-
-fn has_parts(bytes: &[u8]) -> bool
-    ensures { result ≡ has_parts bytes.now }
-{
-    bytes.split(|byte| *byte == b'/').all(is_part)
-}
-
-// Whether a part between slashes is neither empty nor a dot nor two.
-fn is_part(part: &[u8]) -> bool
-    ensures { result ≡ is_part part.now }
-{
-    !part.is_empty() && part != b".".as_slice() && part != b"..".as_slice()
+    if bytes.len() > MAX_PATH {
+        return false;
+    }
+    let mut scan = PathScan::Start;
+    for k in 0..bytes.len() {
+        match scan_on(scan, bytes[k], bytes.len() - 1 - k) {
+            None => return false,
+            Some(after) => {
+                scan = after;
+            }
+        }
+    }
+    true
 }

@@ -1,12 +1,10 @@
 use Rattle.std.proofs.Common.{◌≡◌, List, map, sym, IfSome, Option, subst}
 use Rattle.wdt_units.specs.Tree.{File}
 use Rattle.wdt_tree.specs.Shown.{entry_of_file}
-use Rattle.wdt_tree.specs.declared.entry.Entry.{Entry}
-use Rattle.wdt_cli.proofs.Listed.{told-listed}
+use Rattle.wdt_cli.proofs.Listed.{told-ordered}
 use Rattle.wdt_cli.proofs.rehearse.rehearse.Goals as goal
 
 pub gather-requires : goal.gather-requires
 gather-requires g c =
-    let listed = told-listed (g.S.Source.told c.args.source.now) (g.S.Source.listing c.args.source.now) c.in-Ok.raw.items (g.met.S.Source.told_is_listed c.args.source.now) c.in-Ok.ensures.listed c.in-Ok-check.ensures.accepted.few in
-    let ordered = subst (λ (m : List Entry). IfSome (g.S.Source.told c.args.source.now) (λ files. m ≡ map entry_of_file files)) (sym c.in-Ok-check.ensures.entries) listed in
+    let ordered = told-ordered (g.S.Source.told c.args.source.now) (g.S.Source.listing c.args.source.now) c.in-Ok.raw.items c.in-Ok-check.manifest (g.met.S.Source.told_is_tree c.args.source.now) (g.met.S.Source.told_is_listed c.args.source.now) c.in-Ok.ensures.listed c.in-Ok-check.ensures.entries in
     subst (λ (t : Option (List File)). IfSome t (λ files. c.in-Ok-check.manifest ≡ map entry_of_file files)) (sym c.in-Ok.ensures.told) ordered
