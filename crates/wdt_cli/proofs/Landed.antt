@@ -1,6 +1,6 @@
 -- Files that land one after the other.
 use Rattle.std.proofs.Common.{◌≡◌, ℕ, ◌+◌, ◌<◌, ◌≤◌, List, [], ◌∷◌, ◌++◌, length, map, take, drop, Option, Some, None, IfSome, Bool, true, IsTrue, refl, sym, ap, ◌∙◌, subst, slice_get, arith}
-use Rattle.std.proofs.lemmas.List.{take_more, map-append, length-map, length-append}
+use Rattle.std.proofs.lemmas.List.{take_more, take_all, map-append, length-map, length-append}
 use Rattle.std.proofs.lemmas.Option.{slice_get-map, slice_get_within, get_or_from_slice_get}
 use Rattle.std.proofs.lemmas.Bool.{le-leb}
 use Rattle.std.proofs.Math.Seq.{take-add}
@@ -132,3 +132,7 @@ first-all (Some files) entries at landed end same first =
     whole : (xs : List File) → take (length xs) xs ≡ xs
     whole [] = refl
     whole (x ∷ xs) = ap (λ (ys : List File). x ∷ ys) (whole xs)
+
+-- the first entries, as many as there are, are all
+pub all-entries : (entries : List Entry) (at : ℕ) (landed : List Entry) → at ≡ length entries → landed ≡ take at entries → landed ≡ entries
+all-entries entries at landed end first = first ∙ take_all at entries (omega arith)

@@ -1,5 +1,9 @@
 pub mod Complete
+pub mod Counted
+pub mod Fronts
 pub mod Landed
 pub mod Listed
+pub mod Messages
 pub mod Pieces
+pub mod Receiving
 pub mod Unique

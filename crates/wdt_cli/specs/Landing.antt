@@ -1,11 +1,7 @@
--- What is read of a source, and what lands.
-use Rattle.std.specs.Prelude.{◌≡◌, ℕ, List, ◌++◌, length, sum_by, Option, Some, None, IfSome}
+-- What is read of a source.
+use Rattle.std.specs.Prelude.{◌≡◌, ℕ, List, ◌++◌, length, Option, Some, None, IfSome}
 use Rattle.wdt_units.specs.Tree.{File}
-use Rattle.wdt_tree.specs.declared.entry.Entry.{Entry}
-use Rattle.wdt_tree.specs.Listing.{size_of}
 use Rattle.wdt_source.specs.Told.{IsRead}
-use Rattle.wdt_cli.specs.Lines.{blocks_in}
-use Rattle.wdt_cli.specs.declared.report.Report.{Report}
 
 -- so many bytes were added at a list's end: those of the told file of that path from an offset on
 pub record AddsBlock (told : Option (List File)) (path : List ℕ) (offset count : ℕ) (old new : List ℕ) : Type 0 where
@@ -23,7 +19,3 @@ HasSize (Some file) size = length file.bytes ≡ size
 abbrev pub HasBytes : Option File → List ℕ → Type 0
 HasBytes None bytes = ⊥
 HasBytes (Some file) bytes = bytes ≡ file.bytes
-
--- the counts of a manifest
-abbrev pub counts_of : List Entry → Report
-counts_of entries = record { files = length entries; blocks = sum_by (λ entry. blocks_in entry.size) entries; bytes = sum_by size_of entries }

@@ -3,4 +3,6 @@ pub mod Failures
 pub mod Landing
 pub mod Lines
 pub mod Numbers
+pub mod Received
+pub mod Sending
 pub mod Words

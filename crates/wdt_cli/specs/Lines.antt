@@ -1,24 +1,27 @@
 -- The lines that a run puts to its sink.
-use Rattle.std.specs.Prelude.{◌≡◌, ℕ, ◌+◌, ◌-◌, ◌/◌, ◌==◌, List, ◌++◌, length, take, map, sum_by, codes, Option, Some, None, if◌then◌else◌}
+use Rattle.std.specs.Prelude.{◌≡◌, ℕ, List, [], ◌++◌, length, take, map, sum_by, codes, Option, Some, None}
 use Rattle.std.specs.Fmt.{decimal}
 use Rattle.wdt_units.specs.Counts.{Stands}
 use Rattle.wdt_units.specs.Tree.{File, length_of}
+use Rattle.wdt_units.specs.declared.blocks.Block.{Block}
+use Rattle.wdt_tree.specs.Rest.{IsRest}
+use Rattle.wdt_tree.specs.Shown.{entry_of_file}
 use Rattle.wdt_cli.specs.declared.report.Report.{Report}
 use Rattle.wdt_cli.specs.declared.status.Status.{Status}
 use Rattle.wdt_cli.specs.declared.status.Status.TheVariants.{Done, Usage, SourceFault, Refused, OutFault, NoMemory}
 use Rattle.wdt_cli.specs.declared.status.RefusedKind.{RefusedKind}
 use Rattle.wdt_cli.specs.declared.status.RefusedKind.TheVariants.{BadPath, Reserved, Twice, TooMany, TooLarge}
 
--- how many blocks of 16,777,216 bytes and one shorter a file of this size has; an empty file has one
-abbrev pub blocks_in : ℕ → ℕ
-blocks_in size = if size == 0 then 1 else (size + 16777215) / 16777216
+-- what a run counts that landed these files in so many blocks
+abbrev pub report_of : List File → ℕ → Report
+report_of files blocks = record { files = length files; blocks = blocks; bytes = sum_by length_of files }
 
-abbrev pub blocks_of : File → ℕ
-blocks_of file = blocks_in (length file.bytes)
-
--- what a run counts that landed these files
-abbrev pub report_of : List File → Report
-report_of files = record { files = length files; blocks = sum_by blocks_of files; bytes = sum_by length_of files }
+-- the counts of a run that landed these files: its blocks are what was to be sent of them to a
+-- destination that has nothing, in blocks of 16,777,216 bytes
+pub record IsReportOf (files : List File) (report : Report) : Type 0 where
+  pub blocks : List Block
+  pub rest : IsRest (map entry_of_file files) [] 16777216 blocks
+  pub is : report ≡ report_of files (length blocks)
 
 -- the seven lines of a report, and the last line of a run that is done
 abbrev pub done_text : Report → List ℕ
@@ -50,7 +53,7 @@ GotMost text before after (Some old) new = (n : ℕ) × (new ≡ Some (old ++ ta
 
 -- what the sink got behind each status: the report of what landed, or the one last line
 abbrev pub Prints : Status → List File → ℕ → ℕ → Option (List ℕ) → Option (List ℕ) → Type 0
-Prints Done landed before after old new = Got (done_text (report_of landed)) old new
+Prints Done landed before after old new = (report : Report) × IsReportOf landed report × Got (done_text report) old new
 Prints Usage landed before after old new = GotMost (codes "usage\n") before after old new
 Prints SourceFault landed before after old new = GotMost (codes "source fault\n") before after old new
 Prints (Refused kind) landed before after old new = GotMost (refusal_line kind) before after old new

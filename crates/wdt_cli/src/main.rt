@@ -8,8 +8,10 @@
 mod folder;
 mod help;
 mod reading;
+mod receiver;
 mod rehearse;
 mod report;
+mod session;
 mod status;
 #[cfg(test)]
 mod tests;

@@ -1,13 +1,14 @@
 //! What no clause says: that the runs succeed, and worked examples of their lines.
 ghost use Rattle.std.specs.Prelude.{None};
 
+use crate::session::transfer;
 use crate::status::{RefusedKind, Status};
 use crate::tool::tool;
 use std::alloc::Global;
 use std::process::Abort;
 use std::test::Fail;
 use wdt_source::{MemSource, Source, SourceFail};
-use wdt_tree::{Plain, RawEntry};
+use wdt_tree::{Manifest, Plain, RawEntry};
 use wdt_units::{MemSink, Name};
 
 fn words_of(alloc: Global, texts: &[&str]) -> Result<Vec<String>, Fail> {
@@ -108,10 +109,11 @@ fn other_words_are_usage(rt: HostRuntime) -> Result<(), Fail> {
     Ok(())
 }
 
-// A source that lists paths of any kind, each of an empty file.
+// A source that lists paths of any kind, each of a file with the same bytes, and tells nothing.
 #[derive(Drop)]
 struct Paths {
     paths: Vec<Vec<u8>>,
+    bytes: Vec<u8>,
 }
 
 impl Source for Paths {
@@ -128,7 +130,7 @@ impl Source for Paths {
         for path in &self.paths {
             raw.push(RawEntry {
                 path: Vec::from_slice(alloc, path)?,
-                size: 0,
+                size: self.bytes.len() as u64,
                 stamp: 0,
             })?;
         }
@@ -138,13 +140,28 @@ impl Source for Paths {
         Err(SourceFail::Failed)
     }
 
-    fn read_exact_at(&mut self, _: &Name, _: u64, _: &mut [u8]) -> Result<(), SourceFail> {
-        Err(SourceFail::Failed)
+    fn read_exact_at(&mut self, _: &Name, _: u64, into: &mut [u8]) -> Result<(), SourceFail> {
+        if into.len() != self.bytes.len() {
+            return Err(SourceFail::Failed);
+        }
+        into.copy_from_slice(&self.bytes);
+        Ok(())
     }
 
     ghost told_is_tree = { λ _. tt };
 
     ghost told_is_listed = { λ _. tt };
+}
+
+fn paths_of(alloc: Global, paths: &[&[u8]], bytes: &[u8]) -> Result<Paths, Fail> {
+    let mut source = Paths {
+        paths: Vec::new(alloc),
+        bytes: Vec::from_slice(alloc, bytes)?,
+    };
+    for path in paths {
+        source.paths.push(Vec::from_slice(alloc, path)?)?;
+    }
+    Ok(source)
 }
 
 #[test]
@@ -178,17 +195,39 @@ fn paths_are_refused_at_their_place(rt: HostRuntime) -> Result<(), Fail> {
         ),
     ];
     for (paths, status, line) in listings {
-        let mut source = Paths {
-            paths: Vec::new(rt.alloc()),
-        };
-        for path in paths {
-            source.paths.push(Vec::from_slice(rt.alloc(), path)?)?;
-        }
+        let mut source = paths_of(rt.alloc(), paths, b"")?;
         let mut out = MemSink::of(rt.alloc(), Vec::new(rt.alloc()));
         let words = words_of(rt.alloc(), &["rehearse", "SRC"])?;
         let tooled = tool(rt.alloc(), &words, &mut source, &mut out);
         assert_eq!(rt; tooled.status, status);
         assert_eq!(rt; out.bytes(), line);
+    }
+    Ok(())
+}
+
+// Settings of version 1, session 1, lane 0 of 1, connection 1, blocks of 16,777,216 bytes; then the
+// size, each block behind its header, and two times the last word.
+#[test]
+fn the_wire_has_settings_size_blocks_and_done_twice(rt: HostRuntime) -> Result<(), Fail> {
+    let wires: [(&[&[u8]], &[u8]); 2] = [
+        (
+            &[],
+            b"\x53\0\x01\0\0\0\0\0\0\0\x01\0\x01\0\x01\x01\0\0\0\0\
+            \x5a\0\0\0\0\0\0\0\0\0\0\0\0\x4c\x4c",
+        ),
+        (
+            &[b"a"],
+            b"\x53\0\x01\0\0\0\0\0\0\0\x01\0\x01\0\x01\x01\0\0\0\0\
+            \x5a\0\0\0\x01\0\0\0\0\0\0\0\x02\
+            \x44\0\x01a\0\0\0\0\0\0\0\x02\0\0\0\0\0\0\0\0\0\0\0\0\0\0\0\0\0\0\0\x02hi\x4c\x4c",
+        ),
+    ];
+    for (paths, wire) in wires {
+        let mut source = paths_of(rt.alloc(), paths, b"hi")?;
+        let manifest = Manifest::check(rt.alloc(), source.list(rt.alloc())?)?;
+        let sent = transfer(rt.alloc(), &mut source, &manifest)?;
+        assert_eq!(rt; sent.wire.as_slice(), wire);
+        assert_eq!(rt; sent.landed.len(), paths.len());
     }
     Ok(())
 }

@@ -3,7 +3,7 @@ ghost use Rattle.std.specs.Prelude.{◌≡◌, ◌≢◌, ◌↔◌, None, IfSom
 ghost use Rattle.wdt_units.specs.Counts.{Rises, Stands};
 ghost use Rattle.wdt_tree.specs.Shown.{shown};
 ghost use Rattle.wdt_cli.specs.Words.{folder_of};
-ghost use Rattle.wdt_cli.specs.Lines.{Prints, GotMost, report_of};
+ghost use Rattle.wdt_cli.specs.Lines.{Prints, GotMost, IsReportOf};
 ghost use Rattle.wdt_cli.specs.Causes.{IsToldRefused, IsRefusedFor, IsUnrefused, IsDoneOrStarved, IsReportEnd, IsRefusalEnd};
 
 use crate::rehearse::{Failure, Rehearsed, rehearse};
@@ -58,7 +58,7 @@ pub fn tool<S: Source, O: Sink>(
 
 // Puts the report of what landed.
 fn report<O: Sink>(alloc: Global, rehearsed: Rehearsed, out: &mut O) -> Tooled
-    requires { rehearsed.report ≡ report_of (map shown rehearsed.landed.items) }
+    requires { IsReportOf (map shown rehearsed.landed.items) rehearsed.report }
     ensures landed { result.status ≡ Status.Done → result.landed.items ≡ rehearsed.landed.items }
     ensures prints { Prints result.status (map shown result.landed.items) (O.faults out.old) (O.faults out.new) (O.written out.old) (O.written out.new) }
     ensures cause { IsReportEnd result.status (O.faults out.old) (O.faults out.new) }

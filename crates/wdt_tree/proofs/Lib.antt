@@ -4,3 +4,4 @@ pub mod Scan
 pub mod Doubles
 pub mod Refusals
 pub mod Cuts
+pub mod RestOnce

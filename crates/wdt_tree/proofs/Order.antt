@@ -32,7 +32,7 @@ none_counts p (x ∷ xs) h =
     let parts : (p x ≡ false) × (list_any p xs ≡ false) = or_parts (p x) (list_any p xs) h in
     omega (arith, sum_by-cons (λ y. cond (p y) 1 0) x xs, cond-false {A = ℕ} (p x) 1 0 parts.0, none_counts p xs parts.1)
 
-two_count : (p : Entry → Bool) (xs : List Entry) (i j : ℕ) (d : Entry) → i < j → j < length xs → p (get_or xs i d) ≡ true → p (get_or xs j d) ≡ true → 2 ≤ count_by p xs
+pub two_count : {X : Type 0} (p : X → Bool) (xs : List X) (i j : ℕ) (d : X) → i < j → j < length xs → p (get_or xs i d) ≡ true → p (get_or xs j d) ≡ true → 2 ≤ count_by p xs
 two_count p [] i j d lt within a b = absurd (omega arith)
 two_count p (x ∷ xs) i zero d lt within a b = absurd (omega arith)
 two_count p (x ∷ xs) zero (suc j) d lt within a b =

@@ -13,6 +13,6 @@ mod run;
 mod tests;
 
 pub use entry::{Entry, Plain, RawEntry};
-pub use laws::cuts_are_the_rest;
+pub use laws::{cuts_are_the_rest, the_rest_is_one_list};
 pub use manifest::{Manifest, ManifestFail};
 pub use run::{Run, Untold};

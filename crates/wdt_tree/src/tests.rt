@@ -1,6 +1,9 @@
 //! What no clause says: worked listings, and that each call succeeds where there is memory.
-use crate::{Manifest, ManifestFail, RawEntry};
+ghost use Rattle.std.specs.Prelude.{IsSome};
+
+use crate::{Manifest, ManifestFail, RawEntry, Run};
 use std::alloc::{AllocError, Global};
+use std::marker::Brand;
 use std::test::Fail;
 use wdt_units::Name;
 
@@ -110,4 +113,16 @@ fn finds(rt: HostRuntime) -> Result<(), Fail> {
     assert_eq!(rt; entry.path.text(), "a/b");
     assert_eq!(rt; (entry.size, entry.stamp), (3, 7));
     Ok(())
+}
+
+// A caller that tells a run is generic over it, and is itself called with `Brand`.
+fn told<N: Run>(rows: u32) -> u32
+    requires { IsSome N.told }
+{
+    rows
+}
+
+#[test]
+fn tells_a_run(rt: HostRuntime) {
+    assert_eq!(rt; told::<Brand>(3), 3);
 }

@@ -3,7 +3,6 @@ use Rattle.std.proofs.Common.{◌≡◌, ℕ, zero, suc, ◌+◌, ◌-◌, ◌<�
 use Rattle.std.proofs.lemmas.List.{drop_all, drop_more}
 use Rattle.std.proofs.lemmas.Bool.{cases_lt, le-leb, lt-leb, leb-true}
 use Rattle.wdt_units.specs.declared.scan.PathScan.{PathScan}
-use Rattle.wdt_units.specs.declared.scan.PathScan.TheVariants.{Start, Dot, Dots, Plain, Last, Two, Three, AfterE0, AfterEd, AfterF0, AfterF4}
 use Rattle.wdt_units.specs.Scan.{next, need, leaves, within, or_plain, scan_after}
 
 pub leaves_need : (n : ℕ) (o : Option PathScan) → leaves n o ≡ true → need (or_plain o) ≤ n

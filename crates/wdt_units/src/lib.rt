@@ -23,6 +23,6 @@ pub use failures::{Failed, NoMemory};
 pub use inputs::{FromRead, Input, MemInput};
 pub use limits::{MAX_BLOCK, MAX_FILE_SIZE, MAX_FILES, MAX_PATH, MAX_TOTAL, PIECE};
 pub use numbers::{Conn, Lane, LaneSet, Spot};
-pub use path::{Name, NameFail};
+pub use path::{Name, NameFail, is_reserved};
 pub use scan::{PathScan, scan_on};
 pub use sinks::{MemSink, Sink, ToWrite};

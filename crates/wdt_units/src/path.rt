@@ -102,9 +102,15 @@ impl Name {
     pub fn reserved(&self) -> bool
         ensures { result ≡ is_reserved self.now }
     {
-        self.text.as_bytes() == b".wlog".as_slice()
-            || self.text.as_bytes() == b".wlog.new".as_slice()
+        is_reserved(self.text.as_bytes())
     }
+}
+
+/// Whether a path is one of the receiver's own files, `.wlog` or `.wlog.new`.
+pub fn is_reserved(path: &[u8]) -> bool
+    ensures { result ≡ is_reserved path.now }
+{
+    path == b".wlog".as_slice() || path == b".wlog.new".as_slice()
 }
 
 // Whether the scan goes through all the bytes.

@@ -11,17 +11,13 @@ use Rattle.wdt_tree.specs.Listing.{path_of, has_path, IsSortedByPath}
 use Rattle.wdt_tree.proofs.Order.{found_at, missing, sorted_from}
 use Rattle.wdt_tree.proofs.manifest.Manifest.find.Goals as goal
 
-pub returns-in-Ok-clause-place : goal.returns-in-Ok-clause-place
-returns-in-Ok-clause-place c =
+pub returns-in-Ok : goal.returns-in-Ok
+returns-in-Ok c =
     let whole : c.deref.result.now ≡ c.args.self.now = search rules in
     let at = c.in-Ok.ensures.position (λ (y : Entry). slice_cmp nat_cmp y.path c.args.path.now) (always_returns_same _ _ _ (λ a r f k. search rules)) in
-    subst (λ (xs : List Entry). option_map path_of (slice_get xs c.in-Ok.at) ≡ Some c.args.path.now) whole (found_at c.deref.result.now c.args.path.now c.in-Ok.at c.in-Ok.ensures.bound at).0
-
-pub returns-in-Ok-clause-found : goal.returns-in-Ok-clause-found
-returns-in-Ok-clause-found c =
-    let whole : c.deref.result.now ≡ c.args.self.now = search rules in
-    let at = c.in-Ok.ensures.position (λ (y : Entry). slice_cmp nat_cmp y.path c.args.path.now) (always_returns_same _ _ _ (λ a r f k. search rules)) in
-    subst (λ (xs : List Entry). true ≡ list_any (has_path c.args.path.now) xs) whole (sym (found_at c.deref.result.now c.args.path.now c.in-Ok.at c.in-Ok.ensures.bound at).1)
+    let both = subst (λ (xs : List Entry). (option_map path_of (slice_get xs c.in-Ok.at) ≡ Some c.args.path.now) × (list_any (has_path c.args.path.now) xs ≡ true)) whole
+    (found_at c.deref.result.now c.args.path.now c.in-Ok.at c.in-Ok.ensures.bound at) in
+    record { place = both.0; found = sym both.1 }
 
 pub returns-in-Err-clause-found : goal.returns-in-Err-clause-found
 returns-in-Err-clause-found c =

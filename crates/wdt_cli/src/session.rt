@@ -1,0 +1,222 @@
+//! A rehearsal's one lane. The sending half spells its messages onto a list of bytes; the receiving
+//! half is given these bytes and nothing else.
+ghost use Rattle.std.specs.Prelude.{◌≡◌, ◌≤◌, ◌+◌, ◌^◌, min, true, false, List, ℕ, [], length, map, sum_by, IfOk, IfSome, OnOk, IsOkUnless, IsSome, IsTrue};
+ghost use Rattle.wdt_units.specs.Tree.{file_of};
+ghost use Rattle.wdt_tree.specs.Cuts.{blocks_in, cuts};
+ghost use Rattle.wdt_tree.specs.Listing.{is_entry, size_of};
+ghost use Rattle.wdt_tree.specs.Shown.{shown, entry_of_file};
+ghost use Rattle.wdt_source.specs.Told.{HasFault, is_within_file};
+ghost use Rattle.wdt_codec.specs.Frames.{Fits, owed_by};
+ghost use Rattle.wdt_codec.specs.declared.frames.Frame.TheVariants as frames;
+ghost use Rattle.wdt_cli.specs.Landing.{HasSize};
+ghost use Rattle.wdt_cli.specs.Received.{progress, nothing_held, after_frame};
+ghost use Rattle.wdt_cli.specs.Sending.{Sends, LandsFile, LandsAll, HasRoom, header_at};
+ghost use Rattle.wdt_cli.specs.declared.receiver.Stage.TheVariants as stages;
+
+use crate::reading::read_block;
+use crate::receiver::{Receiver, TakeFail};
+use std::alloc::Global;
+use wdt_codec::{Frame, Settings, encode};
+use wdt_source::{Source, SourceFail};
+use wdt_tree::{Entry, Manifest, Plain};
+use wdt_units::{Conn, Header, Lane, MAX_BLOCK, Name};
+
+/// How many bytes a whole block has.
+const BLOCK: u64 = 16_777_216;
+
+/// The list of bytes is cleared once it holds this many.
+const KEEP: usize = 16_777_216;
+
+/// What a transfer leaves.
+#[derive(Drop)]
+pub struct Transferred {
+    /// The files that landed.
+    pub landed: Vec<Plain>,
+    /// How many blocks were sent.
+    pub blocks: u64,
+    /// The bytes of the wire, from where the list was cleared last: all of them on a small tree.
+    pub wire: Vec<u8>,
+}
+
+/// Sends the tree of a manifest over one lane, and gives what landed.
+pub fn transfer<S: Source>(
+    alloc: Global,
+    source: &mut S,
+    manifest: &Manifest,
+) -> Result<Transferred, SourceFail>
+    requires { IfSome (S.told source.old) (λ files. manifest.now ≡ map entry_of_file files) }
+    ensures entries { IfOk result (λ run. map entry_of_file (map shown run.landed.items) ≡ manifest.now) }
+    ensures tree { IfOk result (λ run. IfSome (S.told source.old) (λ files. map shown run.landed.items ≡ files)) }
+    ensures blocks { IfOk result (λ run. run.blocks ≡ length (cuts BLOCK manifest.now)) }
+    ensures cause { HasFault result (S.faults source.old) (S.faults source.new) }
+    ensures slips { IfSome (S.told source.old) (λ files. S.slips source.new ≡ S.slips source.old) }
+{
+    let mut receiver = Receiver::new(alloc);
+    let mut wire = Vec::new(alloc);
+    say(&settings(), &mut wire, &mut receiver)?;
+    let size = Frame::Size {
+        files: manifest.count(),
+        bytes: manifest.total(),
+    };
+    say(&size, &mut wire, &mut receiver)?;
+    let blocks = send_files(alloc, source, manifest, &mut wire, &mut receiver)?;
+    say(&Frame::Done, &mut wire, &mut receiver)?;
+    say(&Frame::Done, &mut wire, &mut receiver)?;
+    let landed = receiver.into_landed()?;
+    Ok(Transferred {
+        landed,
+        blocks,
+        wire,
+    })
+}
+
+// The sender's first frame: session 1, connection 1 of lane 0 of 1. It asks for nothing.
+fn settings() -> Frame
+    ensures { result ≡ frames.Settings (record { version = 1; session = 1; lane = record { 0 = 0 }; lanes = 1; conn = record { 0 = 1 }; block = BLOCK; ask = false }) }
+{
+    Frame::Settings(Settings {
+        version: 1,
+        session: 1,
+        lane: Lane(0),
+        lanes: 1,
+        conn: Conn(1),
+        block: BLOCK as u32,
+        ask: false,
+    })
+}
+
+// Sends each file of the manifest, and answers how many blocks were sent.
+fn send_files<S: Source>(
+    alloc: Global,
+    source: &mut S,
+    manifest: &Manifest,
+    wire: &mut Vec<u8>,
+    receiver: &mut Receiver,
+) -> Result<u64, SourceFail>
+    requires told { IfSome (S.told source.old) (λ files. manifest.now ≡ map entry_of_file files) }
+    requires idle { receiver.old.reader ≡ nothing_held }
+    requires stage { (progress receiver.old).stage ≡ stages.Blocks (length manifest.now) (sum_by size_of manifest.now) }
+    requires none { (progress receiver.old).landed ≡ [] }
+    ensures landed { OnOk result (LandsAll (S.told source.old) manifest.now (progress receiver.new)) }
+    ensures blocks { IfOk result (λ blocks. blocks ≡ length (cuts BLOCK manifest.now)) }
+    ensures idle { OnOk result (receiver.new.reader ≡ nothing_held) }
+    ensures cause { HasFault result (S.faults source.old) (S.faults source.new) }
+    ensures slips { IfSome (S.told source.old) (λ files. S.slips source.new ≡ S.slips source.old) }
+{
+    let mut piece = Vec::new(alloc);
+    let mut blocks = 0;
+    for at in 0..manifest.count() {
+        blocks += send_file(source, manifest.entry(at), &mut piece, wire, receiver)?;
+    }
+    Ok(blocks)
+}
+
+// Sends a file in blocks, an empty one in a block without a byte, and answers how many were sent.
+fn send_file<S: Source>(
+    source: &mut S,
+    entry: &Entry,
+    piece: &mut Vec<u8>,
+    wire: &mut Vec<u8>,
+    receiver: &mut Receiver,
+) -> Result<u64, SourceFail>
+    requires lawful { IsTrue (is_entry entry.now) }
+    requires size { IfSome (S.told source.old) (λ files. HasSize (file_of files entry.now.path) entry.now.size) }
+    requires idle { receiver.old.reader ≡ nothing_held }
+    requires room { HasRoom (progress receiver.old).stage entry.now.size }
+    ensures landed { OnOk result (LandsFile (S.told source.old) entry.now (progress receiver.old) (progress receiver.new)) }
+    ensures blocks { IfOk result (λ blocks. blocks ≡ blocks_in BLOCK entry.now.size) }
+    ensures bound { IfOk result (λ blocks. blocks ≤ 2 ^ 18) }
+    ensures idle { OnOk result (receiver.new.reader ≡ nothing_held) }
+    ensures told { S.told source.new ≡ S.told source.old }
+    ensures cause { HasFault result (S.faults source.old) (S.faults source.new) }
+    ensures slips { IfSome (S.told source.old) (λ files. S.slips source.new ≡ S.slips source.old) }
+{
+    let first = BLOCK.min(entry.size);
+    send_block(source, entry, 0, first as u32, piece, wire, receiver)?;
+    let mut offset = first;
+    let mut blocks = 1;
+    while offset < entry.size {
+        let count = BLOCK.min(entry.size - offset);
+        send_block(source, entry, offset, count as u32, piece, wire, receiver)?;
+        offset += count;
+        blocks += 1;
+    }
+    Ok(blocks)
+}
+
+// Sends a block of a file: its header, and its bytes from the source.
+fn send_block<S: Source>(
+    source: &mut S,
+    entry: &Entry,
+    offset: u64,
+    count: u32,
+    piece: &mut Vec<u8>,
+    wire: &mut Vec<u8>,
+    receiver: &mut Receiver,
+) -> Result<(), SourceFail>
+    requires lawful { IsTrue (is_entry entry.now) }
+    requires end { offset + count ≤ entry.now.size }
+    requires some { min 1 entry.now.size ≤ count }
+    requires most { count ≤ MAX_BLOCK }
+    requires within { IfSome (S.told source.old) (λ files. is_within_file files entry.now.path offset count ≡ true) }
+    requires idle { receiver.old.reader ≡ nothing_held }
+    requires may_come { (bytes : List ℕ) → length bytes ≡ count → IsSome (after_frame (progress receiver.old).stage (progress receiver.old).landed (frames.Block (header_at entry.now offset count)) bytes) }
+    ensures sent { OnOk result (Sends (S.told source.old) (header_at entry.now offset count) (progress receiver.old) (progress receiver.new)) }
+    ensures idle { OnOk result (receiver.new.reader ≡ nothing_held) }
+    ensures told { S.told source.new ≡ S.told source.old }
+    ensures cause { HasFault result (S.faults source.old) (S.faults source.new) }
+    ensures slips { IfSome (S.told source.old) (λ files. S.slips source.new ≡ S.slips source.old) }
+{
+    if wire.len() >= KEEP {
+        wire.clear();
+    }
+    let start = wire.len();
+    let frame = block_frame(entry.path.copy()?, entry.size, entry.stamp, offset, count);
+    encode(&frame, wire)?;
+    read_block(source, &entry.path, offset, count, piece, wire)?;
+    match receiver.take(&wire[start..]) {
+        Ok(()) => Ok(()),
+        Err(TakeFail::NoMemory) => Err(SourceFail::NoMemory),
+        Err(TakeFail::Unexpected) => unreachable!(),
+    }
+}
+
+// The frame of a block of a file.
+fn block_frame(path: Name, size: u64, stamp: u64, offset: u64, count: u32) -> Frame
+    requires lawful { IsTrue (is_entry (record { path = path; size = size; stamp = stamp })) }
+    requires end { offset + count ≤ size }
+    requires some { min 1 size ≤ count }
+    requires most { count ≤ MAX_BLOCK }
+    ensures frame { result ≡ frames.Block (header_at (record { path = path; size = size; stamp = stamp }) offset count) }
+    ensures fits { Fits result }
+{
+    Frame::Block(Header {
+        path,
+        size,
+        stamp,
+        offset,
+        length: count,
+    })
+}
+
+// Sends a frame that no raw bytes follow.
+fn say(frame: &Frame, wire: &mut Vec<u8>, receiver: &mut Receiver) -> Result<(), SourceFail>
+    requires fits { Fits frame.now }
+    requires bare { owed_by frame.now ≡ 0 }
+    requires idle { receiver.old.reader ≡ nothing_held }
+    requires may_come { IsSome (after_frame (progress receiver.old).stage (progress receiver.old).landed frame.now []) }
+    ensures took { OnOk result (after_frame (progress receiver.old).stage (progress receiver.old).landed frame.now [] ≡ Some (progress receiver.new)) }
+    ensures idle { OnOk result (receiver.new.reader ≡ nothing_held) }
+    ensures fail { IsOkUnless result SourceFail.NoMemory }
+{
+    if wire.len() >= KEEP {
+        wire.clear();
+    }
+    let start = wire.len();
+    encode(frame, wire)?;
+    match receiver.take(&wire[start..]) {
+        Ok(()) => Ok(()),
+        Err(TakeFail::NoMemory) => Err(SourceFail::NoMemory),
+        Err(TakeFail::Unexpected) => unreachable!(),
+    }
+}

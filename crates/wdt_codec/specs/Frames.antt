@@ -1,0 +1,124 @@
+-- The frames of the grammar, their spellings, and how they are read.
+use Rattle.std.specs.Prelude.{◌≡◌, ℕ, ◌+◌, ◌-◌, ◌<◌, ◌≤◌, min, Bool, true, false, List, [], ◌∷◌, ◌++◌, length, Ok, IsTrue, ◌==◌}
+use Rattle.byteorder.specs.Endian.{big_bytes}
+use Rattle.wdt_units.specs.declared.blocks.Header.{Header}
+use Rattle.wdt_units.specs.declared.scan.PathScan.TheVariants.{Start}
+use Rattle.wdt_units.specs.Path.{is_lawful, is_reserved}
+use Rattle.wdt_units.specs.Scan.{next, leaves, scan_after}
+use Rattle.wdt_codec.specs.declared.frames.Frame.{Frame}
+use Rattle.wdt_codec.specs.declared.frames.Frame.TheVariants as frames
+use Rattle.wdt_codec.specs.declared.frames.Mark.{Mark}
+use Rattle.wdt_codec.specs.declared.frames.Settings.{Settings}
+use Rattle.wdt_codec.specs.Reading.{Reading, both, made, alt, except, unknown, byte_where, times, number_at}
+
+-- ---- which frames are in the grammar
+
+pub record FitsSettings (s : Settings) : Type 0 where
+  pub version : s.version ≤ 65535
+  pub session : s.session ≤ 18446744073709551615
+  pub lane : s.lane.0 < s.lanes
+  pub lanes : s.lanes ≤ 16
+  pub conn : (1 ≤ s.conn.0) × (s.conn.0 ≤ 65535)
+  pub block : (1 ≤ s.block) × (s.block ≤ 67108864)
+
+pub record FitsMark (m : Mark) : Type 0 where
+  pub lane : m.lane.0 ≤ 15
+  pub count : m.count ≤ 1048576
+
+pub record FitsSize (files bytes : ℕ) : Type 0 where
+  pub few : files ≤ 262144
+  pub small : bytes ≤ 1125899906842624
+
+-- a lawful path that isn't one of the receiver's own, and a part of the file that is empty only
+-- where the file is
+pub record FitsHeader (h : Header) : Type 0 where
+  pub path : IsTrue (is_lawful h.path)
+  pub free : is_reserved h.path ≡ false
+  pub size : h.size ≤ 1099511627776
+  pub stamp : h.stamp ≤ 18446744073709551615
+  pub end : h.offset + h.length ≤ h.size
+  pub some : min 1 h.size ≤ h.length
+  pub most : h.length ≤ 67108864
+
+abbrev pub Fits : Frame → Type 0
+Fits (frames.Settings s) = FitsSettings s
+Fits (frames.Greeting m) = FitsMark m
+Fits (frames.Size files bytes) = FitsSize files bytes
+Fits (frames.Block h) = FitsHeader h
+Fits frames.Done = Unit {0}
+
+-- how many raw bytes follow a frame
+abbrev pub owed_by : Frame → ℕ
+owed_by (frames.Block h) = h.length
+owed_by _ = 0
+
+-- ---- their spellings
+
+-- yes is 1, no is 0
+abbrev pub flag : Bool → ℕ
+flag true = 1
+flag false = 0
+
+abbrev pub spell_settings : Settings → List ℕ
+spell_settings s = big_bytes 2 s.version ++ (big_bytes 8 s.session ++ (big_bytes 1 s.lane.0 ++ (big_bytes 1 s.lanes ++ (big_bytes 2 s.conn.0 ++ (big_bytes 4 s.block ++ big_bytes 1 (flag s.ask))))))
+
+abbrev pub spell_mark : Mark → List ℕ
+spell_mark m = big_bytes 1 m.lane.0 ++ big_bytes 4 m.count
+
+abbrev pub spell_size : ℕ → ℕ → List ℕ
+spell_size files bytes = big_bytes 4 files ++ big_bytes 8 bytes
+
+abbrev pub spell_header : Header → List ℕ
+spell_header h = big_bytes 2 (length h.path) ++ (h.path ++ (big_bytes 8 h.size ++ (big_bytes 8 h.stamp ++ (big_bytes 8 h.offset ++ big_bytes 4 h.length))))
+
+-- the command byte, and the fields high byte first
+abbrev pub spell : Frame → List ℕ
+spell (frames.Settings s) = 0x53 ∷ spell_settings s
+spell (frames.Greeting m) = 0x47 ∷ spell_mark m
+spell (frames.Size files bytes) = 0x5A ∷ spell_size files bytes
+spell (frames.Block h) = 0x44 ∷ spell_header h
+spell frames.Done = 0x4C ∷ []
+
+-- ---- how they are read
+
+abbrev pub SettingsParts : Type 0
+SettingsParts = ℕ × (ℕ × (ℕ × (ℕ × (ℕ × (ℕ × ℕ)))))
+
+abbrev pub settings_of : SettingsParts → Settings
+settings_of (version, (session, (lane, (lanes, (conn, (block, ask)))))) = record { version = version; session = session; lane = record { 0 = lane }; lanes = lanes; conn = record { 0 = conn }; block = block; ask = ask == 1 }
+
+-- a lane leaves room for a greater number of lanes
+unfoldable pub settings_at : Reading Settings
+settings_at = made settings_of (both (number_at 2 0 65535) λ version. both (number_at 8 0 18446744073709551615) λ session. both (number_at 1 0 15) λ lane. both (number_at 1 (lane + 1) 16) λ lanes. both (number_at 2 1 65535) λ conn. both (number_at 4 1 67108864) λ block. number_at 1 0 1)
+
+abbrev pub mark_of : ℕ × ℕ → Mark
+mark_of (lane, count) = record { lane = record { 0 = lane }; count = count }
+
+unfoldable pub mark_at : Reading Mark
+mark_at = made mark_of (both (number_at 1 0 15) λ lane. number_at 4 0 1048576)
+
+abbrev pub size_of : ℕ × ℕ → Frame
+size_of (files, bytes) = frames.Size files bytes
+
+unfoldable pub size_at : Reading (ℕ × ℕ)
+size_at = both (number_at 4 0 262144) λ files. number_at 8 0 1125899906842624
+
+-- the bytes of a path, so many: each leaves room for those that must follow it
+unfoldable pub path_at : ℕ → Reading (List ℕ)
+path_at n = times (λ more s. byte_where (λ b. leaves more (next s b))) scan_after n Start
+
+abbrev pub HeaderParts : Type 0
+HeaderParts = ℕ × (List ℕ × (ℕ × (ℕ × (ℕ × ℕ))))
+
+abbrev pub header_of : HeaderParts → Header
+header_of (n, (path, (size, (stamp, (offset, len))))) = record { path = path; size = size; stamp = stamp; offset = offset; length = len }
+
+unfoldable pub header_at : Reading Header
+header_at = made header_of (both (number_at 2 1 1024) λ n. both (except is_reserved (path_at n)) λ path. both (number_at 8 0 1099511627776) λ size. both (number_at 8 0 18446744073709551615) λ stamp. both (number_at 8 0 (size - 1)) λ offset. number_at 4 (min 1 size) (min 67108864 (size - offset)))
+
+abbrev pub done_of : Unit {0} → Frame
+done_of u = frames.Done
+
+-- one of them by its command byte
+unfoldable pub frame_at : Reading Frame
+frame_at = alt 0x5A size_of size_at (alt 0x53 frames.Settings settings_at (alt 0x4C done_of (λ bytes. Ok (tt, bytes)) (alt 0x47 frames.Greeting mark_at (alt 0x44 frames.Block header_at unknown))))

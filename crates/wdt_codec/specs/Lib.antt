@@ -1,0 +1,4 @@
+pub mod Reading
+pub mod Frames
+pub mod Grammar
+pub mod Stream
