@@ -2,6 +2,7 @@ pub mod Causes
 pub mod Failures
 pub mod Landing
 pub mod Lines
+pub mod Named
 pub mod Numbers
 pub mod Received
 pub mod Sending

@@ -25,8 +25,9 @@ use std::alloc::{AllocError, Global};
 use std::io;
 use std::process::ExitCode;
 use std::rt::{Env, Files};
+use trouble::OneLine;
 use wdt_units::ToWrite;
-use words::folder_of;
+use words::folders_of;
 
 fn main(rt: HostRuntime) -> io::Result<ExitCode> {
     let alloc = rt.alloc();
@@ -41,7 +42,10 @@ fn main(rt: HostRuntime) -> io::Result<ExitCode> {
             return Ok(ExitCode::from(0));
         }
     }
-    let folder = String::from_str(alloc, folder_of(&words).unwrap_or(""))?;
+    let folder = match folders_of(alloc, &words) {
+        Ok(Some(named)) => named.source,
+        Ok(None) | Err(_) => String::new(alloc),
+    };
     let mut source = FolderSource::at(rt.clone()?, folder);
     let mut out = ToWrite::of(io::writer(&rt));
     let tooled = tool::tool(alloc, &words, &mut source, &mut out);
@@ -109,7 +113,10 @@ fn explain_refusal<R: Files + AllocGlobal + Clone + Drop>(
         }
     };
     match source.path_at(alloc, at) {
-        Some(path) => eprintln!(rt; "wdt: refusing {path}: {why}"),
+        Some(path) => {
+            let path = OneLine(path.as_str());
+            eprintln!(rt; "wdt: refusing {path}: {why}")
+        }
         None => eprintln!(rt; "wdt: refusing the file at place {at}: {why}"),
     }
 }

@@ -14,9 +14,26 @@ pub struct Fault {
 impl fmt::Display for Fault {
     fn fmt<W: fmt::Write>(&self, f: &mut fmt::Formatter<W>) -> fmt::Result {
         let doing = self.doing;
-        let path = self.path.as_str();
+        let path = OneLine(self.path.as_str());
         let reason = &self.reason;
         write!(f, "{doing} {path}: {reason}")
+    }
+}
+
+/// A path on one line: a backslash is printed as two, and a line feed as a backslash and an n.
+#[derive(Clone, Copy, Debug)]
+pub struct OneLine<'a>(pub &'a str);
+
+impl fmt::Display for OneLine<'_> {
+    fn fmt<W: fmt::Write>(&self, f: &mut fmt::Formatter<W>) -> fmt::Result {
+        for c in self.0.chars() {
+            match c {
+                '\\' => f.write_str("\\\\")?,
+                '\n' => f.write_str("\\n")?,
+                _ => f.write_char(c)?,
+            }
+        }
+        Ok(())
     }
 }
 
