@@ -1,2 +1,5 @@
 pub mod Laws
+pub mod Memory
+pub mod Order
+pub mod Place
 pub mod Told

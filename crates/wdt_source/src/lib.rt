@@ -8,9 +8,13 @@
 #![tactic(auto)]
 
 mod failure;
+mod laws;
 mod memory;
 mod source;
+#[cfg(test)]
+mod tests;
 
 pub use failure::SourceFail;
+pub use laws::files_in_any_order_are_one_tree;
 pub use memory::MemSource;
 pub use source::Source;

@@ -1,12 +1,12 @@
 //! Files in memory.
-ghost use Rattle.std.specs.Prelude.{◌≡◌, ◌<◌, ◌≤◌, ◌+◌, ◌^◌, vec_len, length, map, take, drop, List, if◌then◌else◌, Option, Some, None, IfOk, IfSome, IfNone, IsOkUnless, IsTrue, false, nat_le};
-ghost use Rattle.std.specs.Option.{option_map};
+ghost use Rattle.std.specs.Prelude.{◌≡◌, ◌<◌, ◌≤◌, ◌+◌, ◌^◌, vec_len, length, map, take, drop, slice_get, IfOk, IfSome, IfNone, IsOkUnless, Some, false, nat_le};
 ghost use Rattle.wdt_units.specs.Counts.{Rises};
-ghost use Rattle.wdt_units.specs.Tree.{is_tree, file_of};
 ghost use Rattle.wdt_tree.specs.Shown.{shown, entry_of_file};
 ghost use Rattle.wdt_tree.specs.Listing.{entry_of};
-ghost use Rattle.wdt_source.specs.Told.{IsRead, is_within_file};
 ghost use Rattle.wdt_source.specs.Laws.{told_is_tree, told_is_listed};
+ghost use Rattle.wdt_source.specs.Order.{tree_of};
+ghost use Rattle.wdt_source.specs.Place.{file_at, is_of_path, IsPart, IsPlace};
+ghost use Rattle.wdt_source.specs.Told.{is_within};
 
 use crate::failure::SourceFail;
 use crate::source::Source;
@@ -14,7 +14,9 @@ use std::alloc::Global;
 use wdt_tree::{Plain, RawEntry};
 use wdt_units::Name;
 
-/// Files in memory. Calls are numbered from 1, and those whose numbers it is given fail.
+/// Files in memory. Calls are numbered from 1, and those whose numbers it is given fail; both calls
+/// are numbered together. A read for bytes that its files don't have is a slip, counts a fault and
+/// fails, whether or not its number is among those.
 #[derive(Debug, Drop)]
 pub struct MemSource {
     files: Vec<Plain>,
@@ -22,14 +24,21 @@ pub struct MemSource {
     calls: u32,
     faults: u64,
     slips: u64,
+    // Where the last file was found: a hint, since any place that has the path will do.
+    near: usize,
     ghost few: { vec_len files < 2 ^ 32 },
 }
 
 impl MemSource {
-    /// A source of fewer than 2^32 files. It tells them where they are a tree, and elsewhere lists
-    /// them as they are.
+    ghost use Rattle.wdt_source.specs.Memory.{files_in, faults_in, slips_in, next_call, fails_next};
+
+    /// A source of fewer than 2^32 files, in any order. It tells their tree where they are one, and
+    /// lists them as they are handed in.
     pub fn of(files: Vec<Plain>, fails: Vec<u32>) -> MemSource
         requires { vec_len files < 2 ^ 32 }
+        ensures files { files_in result ≡ map shown files.items }
+        ensures faults { faults_in result ≡ 0 }
+        ensures slips { slips_in result ≡ 0 }
     {
         MemSource {
             files,
@@ -37,10 +46,15 @@ impl MemSource {
             calls: 0,
             faults: 0,
             slips: 0,
+            near: 0,
         }
     }
 
+    // Numbers a call, and answers whether it's one that fails.
     fn fails_now(&mut self) -> bool
+        ensures failing { result ≡ fails_next self.old }
+        ensures calls { self.new.calls ≡ next_call self.old }
+        ensures fails { self.new.fails ≡ self.old.fails }
         ensures files { self.new.files ≡ self.old.files }
         ensures faults { self.new.faults ≡ self.old.faults }
         ensures slips { self.new.slips ≡ self.old.slips }
@@ -51,6 +65,8 @@ impl MemSource {
 
     fn fault(&mut self) -> SourceFail
         ensures failed { result ≡ SourceFail.Failed }
+        ensures calls { self.new.calls ≡ self.old.calls }
+        ensures fails { self.new.fails ≡ self.old.fails }
         ensures files { self.new.files ≡ self.old.files }
         ensures faults { Rises self.old.faults self.new.faults }
         ensures slips { self.new.slips ≡ self.old.slips }
@@ -61,6 +77,8 @@ impl MemSource {
 
     fn slip(&mut self) -> SourceFail
         ensures failed { result ≡ SourceFail.Failed }
+        ensures calls { self.new.calls ≡ self.old.calls }
+        ensures fails { self.new.fails ≡ self.old.fails }
         ensures files { self.new.files ≡ self.old.files }
         ensures faults { Rises self.old.faults self.new.faults }
         ensures slips { Rises self.old.slips self.new.slips }
@@ -86,11 +104,37 @@ fn listing(alloc: Global, files: &Vec<Plain>) -> Result<Vec<RawEntry>, SourceFai
     Ok(raw)
 }
 
-// The file of that path.
-fn file_of<'a>(files: &'a Vec<Plain>, path: &Name) -> Option<&'a Plain>
-    ensures { option_map (λ file. shown file.now) result ≡ file_of (map shown files.now.items) path.now }
+// Whether the file at a place has that path.
+fn is_at(files: &Vec<Plain>, place: usize, path: &Name) -> bool
+    ensures { result ≡ is_of_path path.now (slice_get (map shown files.now.items) place) }
 {
-    files.iter().find(|file| file.path.bytes() == path.bytes())
+    match files.get(place) {
+        Some(file) => file.path.bytes() == path.bytes(),
+        None => false,
+    }
+}
+
+// The first place of that path.
+fn first_of(files: &Vec<Plain>, path: &Name) -> Option<usize>
+    ensures { IsPlace (map shown files.now.items) path.now result }
+{
+    files
+        .iter()
+        .position(|file| file.path.bytes() == path.bytes())
+}
+
+// A place of that path: files that are read one after the other stand near the last place.
+fn place_of(files: &Vec<Plain>, path: &Name, near: usize) -> Option<usize>
+    ensures { IsPlace (map shown files.now.items) path.now result }
+{
+    if is_at(files, near, path) {
+        return Some(near);
+    }
+    let next = near.saturating_add(1);
+    if is_at(files, next, path) {
+        return Some(next);
+    }
+    first_of(files, path)
 }
 
 // As many bytes of a file at an offset, where they are within it.
@@ -105,26 +149,25 @@ fn part(file: &Plain, offset: u64, count: usize) -> Option<&[u8]>
     file.bytes.get(start..end)
 }
 
-// As many bytes of the file of that path at an offset, where they are within it.
-fn bytes_of<'a>(files: &'a Vec<Plain>, path: &Name, offset: u64, count: usize) -> Option<&'a [u8]>
+// As many bytes of the file at a place from an offset on, where they are within it.
+fn part_at(files: &Vec<Plain>, place: Option<usize>, offset: u64, count: usize) -> Option<&[u8]>
     ensures some { IfSome result (λ bytes. (length bytes.now ≡ count)
-        × IsRead (map shown files.now.items) path.now offset bytes.now) }
-    ensures none { IfNone result (is_within_file (map shown files.now.items) path.now offset count ≡ false) }
+        × IsPart (file_at (map shown files.now.items) place) offset bytes.now) }
+    ensures none { IfNone result (is_within (file_at (map shown files.now.items) place) offset count ≡ false) }
 {
-    match file_of(files, path) {
-        Some(file) => part(file, offset, count),
-        None => None,
-    }
+    part(files.get(place?)?, offset, count)
 }
 
 impl Source for MemSource {
-    ghost told = { λ s. if is_tree (map shown s.files.items) then Some (map shown s.files.items) else None };
+    ghost use Rattle.wdt_source.specs.Memory.{files_in, faults_in, slips_in};
 
-    ghost listing = { λ s. Some (map entry_of_file (map shown s.files.items)) };
+    ghost told = { λ s. tree_of (files_in s) };
 
-    ghost faults = { λ s. s.faults };
+    ghost listing = { λ s. Some (map entry_of_file (files_in s)) };
 
-    ghost slips = { λ s. s.slips };
+    ghost faults = { λ s. faults_in s };
+
+    ghost slips = { λ s. slips_in s };
 
     fn list(&mut self, alloc: Global) -> Result<Vec<RawEntry>, SourceFail> {
         if self.fails_now() {
@@ -140,7 +183,9 @@ impl Source for MemSource {
         into: &mut [u8],
     ) -> Result<(), SourceFail> {
         let failing = self.fails_now();
-        match bytes_of(&self.files, path, offset, into.len()) {
+        let place = place_of(&self.files, path, self.near);
+        self.near = place.unwrap_or(self.near);
+        match part_at(&self.files, place, offset, into.len()) {
             Some(bytes) if !failing => {
                 into.copy_from_slice(bytes);
                 Ok(())
@@ -150,7 +195,7 @@ impl Source for MemSource {
         }
     }
 
-    ghost told_is_tree = { λ s. told_is_tree (map shown s.files.items) };
+    ghost told_is_tree = { λ s. told_is_tree (files_in s) };
 
-    ghost told_is_listed = { λ s. told_is_listed (map shown s.files.items) };
+    ghost told_is_listed = { λ s. told_is_listed (files_in s) };
 }

@@ -26,3 +26,6 @@ pub use numbers::{Conn, Lane, LaneSet, Spot};
 pub use path::{Name, NameFail, is_reserved};
 pub use scan::{PathScan, scan_on};
 pub use sinks::{MemSink, Sink, ToWrite};
+
+#[cfg(test)]
+mod tests;

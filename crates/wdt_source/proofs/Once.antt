@@ -1,0 +1,197 @@
+-- Files have one order, and `in_order` finds it.
+use Rattle.std.proofs.Common.{◌≡◌, ℕ, zero, suc, Bool, true, false, List, [], ◌∷◌, Option, Some, None, refl, sym, ap, ◌∙◌, slice_get, ◌⊎◌, inl, inr, subst, if◌then◌else◌}
+use Rattle.std.specs.Prelude.{IsTrue}
+use Rattle.std.specs.List.{AllByRecursion, Contains, IsDistinct, list_all, list_any}
+use Rattle.std.specs.List.Sorted.{IsPermutation}
+use Rattle.std.specs.Ordering.{is_eq, is_lt, nat_cmp, ordering_reverse}
+use Rattle.std.specs.declared.cmp.Ordering.{Ordering}
+use Rattle.std.specs.declared.cmp.Ordering.TheVariants.{Less, Equal, Greater}
+use Rattle.std.specs.Cmp.Lexicographic.{slice_cmp}
+use Rattle.std.specs.Str.{bytes_eq}
+use Rattle.std.proofs.lemmas.Bool.{and_from, or_parts}
+use Rattle.std.proofs.lemmas.Cmp.{eq_by_cmp_equiv, nat_list_cmp_total}
+use Rattle.std.proofs.lemmas.List.Sorted.{Contains-permutation, IsPermutation-sym, IsPermutation-trans, list_any-IsPermutation}
+use Rattle.std.proofs.lemmas.Map.Keys.{IsDistinct-IsPermutation}
+use Rattle.std.proofs.lemmas.Map.Text.{is_eq-slice_cmp}
+use Rattle.std.proofs.lemmas.Option.{slice_get_within, get_or_from_slice_get, slice_get-get_or}
+use Rattle.wdt_units.specs.Tree.{File, is_below, is_rising, is_tree}
+use Rattle.wdt_tree.proofs.Files.{and_split, list_all-at, rising}
+use Rattle.wdt_source.specs.Laws.{same_files}
+use Rattle.wdt_source.specs.Order.{put, in_order, tree_of}
+use Rattle.wdt_source.specs.Place.{has_path}
+
+-- ---- a rising list is one
+
+Has : List File → File → Type 0
+Has xs x = (k : ℕ) × (slice_get xs k ≡ Some x)
+
+has : (xs : List File) (x : File) → Contains xs x → Has xs x
+unfolding Has
+has xs x h = (h.0, slice_get-get_or xs h.0 x h.1 ∙ ap Some h.2)
+
+contains : (xs : List File) (x : File) → Has xs x → Contains xs x
+unfolding Has
+contains xs x h = (h.0, slice_get_within xs h.0 x h.1, get_or_from_slice_get xs h.0 x x h.1)
+
+not_both : (o p : Ordering) → o ≡ ordering_reverse p → is_lt o ≡ true → is_lt p ≡ true → ⊥
+not_both Less Less e h k = cc
+not_both Less Equal e h k = cc
+not_both Less Greater e h k = cc
+not_both Equal p e h k = cc
+not_both Greater p e h k = cc
+
+not_below : (a b : File) → is_below a b ≡ true → is_below b a ≡ true → ⊥
+not_below a b h k = not_both (slice_cmp nat_cmp a.path b.path) (slice_cmp nat_cmp b.path a.path) (nat_list_cmp_total.antisymm a.path b.path) h k
+
+nothing : (x : File) → Has [] x → ⊥
+unfolding Has
+nothing x h = let e : None ≡ Some x = h.1 in cc
+
+-- what a list has is its first, or above it
+cases : (x : File) (xs : List File) (z : File) → is_rising (x ∷ xs) ≡ true → Has (x ∷ xs) z → (x ≡ z) ⊎ (Has xs z × (is_below x z ≡ true))
+unfolding Has
+cases x xs z up (zero, e) = inl (let h : Some x ≡ Some z = e in cc)
+cases x xs z up (suc k, e) = inr ((k, e), list_all-at (is_below x) xs k z ((and_split (list_all (is_below x) xs) (is_rising xs) up).0) e)
+
+first : (x : File) (xs : List File) → Has (x ∷ xs) x
+unfolding Has
+first x xs = (zero, refl)
+
+later : (x : File) (xs : List File) (z : File) → Has xs z → Has (x ∷ xs) z
+unfolding Has
+later x xs z h = (suc h.0, h.1)
+
+heads : (x y : File) (xs ys : List File) → is_rising (x ∷ xs) ≡ true → is_rising (y ∷ ys) ≡ true → Has (y ∷ ys) x → Has (x ∷ xs) y → x ≡ y
+heads x y xs ys ux uy f g =
+    elim (cases y ys x uy f) [
+      | inl e ↦ sym e
+      | inr below ↦
+          elim (cases x xs y ux g) [ inl e ↦ e | inr above ↦ absurd (not_below x y above.1 below.1) ]
+    ]
+
+strict : (x : File) (xs : List File) (z : File) → is_rising (x ∷ xs) ≡ true → Has xs z → x ≡ z → is_below x x ≡ true
+unfolding Has
+strict x xs z up h same =
+    let below : is_below x z ≡ true = list_all-at (is_below x) xs h.0 z ((and_split (list_all (is_below x) xs) (is_rising xs) up).0) h.1 in
+    subst (λ (w : File). is_below x w ≡ true) (sym same) below
+
+above_first : (x y : File) (xs ys : List File) → is_rising (x ∷ xs) ≡ true → is_rising (y ∷ ys) ≡ true → x ≡ y
+    → ((z : File) → Has (x ∷ xs) z → Has (y ∷ ys) z) → (z : File) → Has xs z → Has ys z
+above_first x y xs ys ux uy same f z h =
+    elim (cases y ys z uy (f z (later x xs z h))) [
+      | inr w ↦ w.0
+      | inl e ↦
+          let b : is_below x x ≡ true = strict x xs z ux h (same ∙ e) in absurd (not_below x x b b)
+    ]
+
+unique : (xs ys : List File) → is_rising xs ≡ true → is_rising ys ≡ true → ((z : File) → Has xs z → Has ys z) → ((z : File) → Has ys z → Has xs z) → xs ≡ ys
+unique [] [] ux uy f g = refl
+unique [] (y ∷ ys) ux uy f g = absurd (nothing y (g y (first y ys)))
+unique (x ∷ xs) [] ux uy f g = absurd (nothing x (f x (first x xs)))
+unique (x ∷ xs) (y ∷ ys) ux uy f g =
+    let same : x ≡ y = heads x y xs ys ux uy (f x (first x xs)) (g y (first y ys)) in
+    let rest : xs ≡ ys = unique xs ys ((and_split _ (is_rising xs) ux).1) ((and_split _ (is_rising ys) uy).1)
+    (above_first x y xs ys ux uy same f) (above_first y x ys xs uy ux (sym same) g) in
+    cc
+
+-- two lists of the same files in the order of their paths are one
+one-order : (xs ys : List File) → is_rising xs ≡ true → is_rising ys ≡ true → IsPermutation xs ys → xs ≡ ys
+one-order xs ys ux uy p =
+    unique xs ys ux uy (λ z h. has ys z (Contains-permutation xs ys z p (contains xs z h))) (λ z h. has xs z (Contains-permutation ys xs z (IsPermutation-sym xs ys p) (contains ys z h)))
+
+-- ---- files whose paths differ rise in order
+
+less : (o : Ordering) → is_lt o ≡ true → o ≡ Less
+less Less h = refl
+less Equal h = cc
+less Greater h = cc
+
+below_all : (a b : File) (xs : List File) → is_below a b ≡ true → list_all (is_below b) xs ≡ true → list_all (is_below a) xs ≡ true
+below_all a b [] h all = refl
+below_all a b (x ∷ xs) h all =
+    let parts : (is_below b x ≡ true) × (list_all (is_below b) xs ≡ true) = and_split (is_below b x) (list_all (is_below b) xs) all in
+    let low : slice_cmp nat_cmp a.path x.path ≡ Less = nat_list_cmp_total.trans a.path b.path x.path (less (slice_cmp nat_cmp a.path b.path) h) (less (slice_cmp nat_cmp b.path x.path) parts.0) in
+    and_from (is_below a x) (list_all (is_below a) xs) (ap is_lt low) (below_all a b xs h parts.1)
+
+put_all : (p : File → Bool) (file : File) (xs : List File) → p file ≡ true → list_all p xs ≡ true → list_all p (put file xs) ≡ true
+put_all p file [] here all = and_from (p file) true here refl
+put_all p file (x ∷ xs) here all =
+    let parts : (p x ≡ true) × (list_all p xs ≡ true) = and_split (p x) (list_all p xs) all in
+    elim (is_below x file) as (λ b. list_all p (if b then x ∷ put file xs else file ∷ x ∷ xs) ≡ true) [
+      | true ↦ and_from (p x) (list_all p (put file xs)) parts.0 (put_all p file xs here parts.1)
+      | false ↦ and_from (p file) (list_all p (x ∷ xs)) here all
+    ]
+
+below_other : (o p : Ordering) → p ≡ ordering_reverse o → is_lt o ≡ false → is_eq o ≡ false → is_lt p ≡ true
+below_other Less p e h k = cc
+below_other Equal p e h k = cc
+below_other Greater p e h k = ap is_lt e
+
+put_step : (file x : File) (xs : List File) → is_rising (x ∷ xs) ≡ true → has_path file.path x ≡ false → is_rising (put file xs) ≡ true
+    → (b : Bool) → is_below x file ≡ b → is_rising (if b then x ∷ put file xs else file ∷ x ∷ xs) ≡ true
+put_step file x xs up other rest true e =
+    and_from (list_all (is_below x) (put file xs)) (is_rising (put file xs)) (put_all (is_below x) file xs e ((and_split (list_all (is_below x) xs) (is_rising xs) up).0)) rest
+put_step file x xs up other rest false e =
+    let low : is_below file x ≡ true = below_other (slice_cmp nat_cmp x.path file.path) (slice_cmp nat_cmp file.path x.path) (nat_list_cmp_total.antisymm file.path x.path) e (is_eq-slice_cmp x.path file.path ∙ other) in
+    and_from (list_all (is_below file) (x ∷ xs)) (is_rising (x ∷ xs))
+    (and_from (is_below file x) (list_all (is_below file) xs) low (below_all file x xs low ((and_split (list_all (is_below x) xs) (is_rising xs) up).0)))
+    up
+
+put_rises : (file : File) (xs : List File) → is_rising xs ≡ true → list_any (has_path file.path) xs ≡ false → is_rising (put file xs) ≡ true
+put_rises file [] up other = refl
+put_rises file (x ∷ xs) up other =
+    let parts : (has_path file.path x ≡ false) × (list_any (has_path file.path) xs ≡ false) = or_parts (has_path file.path x) (list_any (has_path file.path) xs) other in
+    put_step file x xs up parts.0 (put_rises file xs ((and_split (list_all (is_below x) xs) (is_rising xs) up).1) parts.1) (is_below x file) refl
+
+same_path : File → File → Bool
+same_path a b = bytes_eq b.path a.path
+
+flips : (a b : File) → same_path a b ≡ same_path b a
+unfolding same_path
+flips a b = sym (is_eq-slice_cmp b.path a.path) ∙ (eq_by_cmp_equiv nat_list_cmp_total).symm b.path a.path ∙ is_eq-slice_cmp a.path b.path
+
+none_same : (file : File) (xs : List File) → AllByRecursion (λ (y : File). same_path file y ≡ false) xs → list_any (has_path file.path) xs ≡ false
+unfolding same_path
+none_same file [] h = refl
+none_same file (x ∷ xs) h = rw (h.0) (none_same file xs (h.1))
+
+apart : (x : File) (xs : List File) → list_all (is_below x) xs ≡ true → AllByRecursion (λ (y : File). same_path x y ≡ false) xs
+unfolding same_path
+apart x [] h = tt
+apart x (y ∷ ys) h =
+    let parts : (is_below x y ≡ true) × (list_all (is_below x) ys ≡ true) = and_split (is_below x y) (list_all (is_below x) ys) h in
+    let other : bytes_eq x.path y.path ≡ false = sym (is_eq-slice_cmp x.path y.path) ∙ ap is_eq (less (slice_cmp nat_cmp x.path y.path) parts.0) in
+    (flips x y ∙ other, apart x ys parts.1)
+
+distinct : (xs : List File) → is_rising xs ≡ true → IsDistinct same_path xs
+unfolding IsDistinct
+distinct [] up = tt
+distinct (x ∷ xs) up =
+    let parts : (list_all (is_below x) xs ≡ true) × (is_rising xs ≡ true) = and_split (list_all (is_below x) xs) (is_rising xs) up in
+    (apart x xs parts.0, distinct xs parts.1)
+
+in_order_rises : (files : List File) → IsDistinct same_path files → is_rising (in_order files) ≡ true
+unfolding IsDistinct
+in_order_rises [] d = refl
+in_order_rises (file ∷ files) d =
+    put_rises file (in_order files) (in_order_rises files d.1) (sym (list_any-IsPermutation (has_path file.path) files (in_order files) (same_files files)) ∙ none_same file files d.0)
+
+-- ---- files are told as the tree of which they are the files
+
+pub told : (tree files : List File) → IsTrue (is_tree tree) → IsPermutation tree files → tree_of files ≡ Some tree
+told tree files h same =
+    let up : is_rising tree ≡ true = rising tree h in
+    let rises : is_rising (in_order files) ≡ true = in_order_rises files (IsDistinct-IsPermutation same_path flips tree files same (distinct tree up)) in
+    let moved : IsPermutation tree (in_order files) = IsPermutation-trans tree files (in_order files) same (same_files files) in
+    let one : in_order files ≡ tree = sym (one-order tree (in_order files) up rises moved) in
+    let tell : List File → Option (List File) = λ t. if is_tree t then Some t else None in
+    ap tell one ∙ rw h refl
+
+pub only_told : (tree files : List File) → tree_of files ≡ Some tree → IsTrue (is_tree tree) × IsPermutation tree files
+only_told tree files = go (is_tree (in_order files)) refl
+  where
+    go : (b : Bool) → is_tree (in_order files) ≡ b → (if b then Some (in_order files) else None) ≡ Some tree → IsTrue (is_tree tree) × IsPermutation tree files
+    go false e h = cc
+    go true e h =
+        let one : in_order files ≡ tree = cc in
+        rw (sym one) (e, IsPermutation-sym files (in_order files) (same_files files))
