@@ -1,0 +1,5 @@
+pub mod Apart
+pub mod Parts
+pub mod Joins
+pub mod Gaps
+pub mod InOrder

@@ -1,0 +1,4 @@
+pub mod Adding
+pub mod Files
+pub mod Places
+pub mod Spans
