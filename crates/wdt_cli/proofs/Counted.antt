@@ -1,41 +1,21 @@
 -- How many files, blocks and bytes a tree has, file by file.
-use Rattle.std.proofs.Common.{◌≡◌, ℕ, zero, suc, ◌+◌, ◌-◌, ◌<◌, ◌≤◌, List, [], ◌∷◌, ◌++◌, length, map, take, sum_by, slice_get, get_or, Some, refl, sym, ap, ◌∙◌, arith}
-use Rattle.std.proofs.lemmas.List.{length-append, length-map, take_all}
+use Rattle.std.proofs.Common.{◌≡◌, ℕ, ◌+◌, ◌-◌, ◌≤◌, List, [], ◌∷◌, length, map, take, sum_by, slice_get, Some, refl, sym, ap, ◌∙◌, arith}
+use Rattle.std.proofs.lemmas.List.{length-map, take_all}
 use Rattle.std.proofs.lemmas.List.Sums.{sum_by-cons, sum_by_more, sum_by_more_le}
 use Rattle.std.proofs.lemmas.Option.{slice_get_within, get_or_from_slice_get}
 use Rattle.wdt_tree.specs.declared.entry.Entry.{Entry}
-use Rattle.wdt_tree.specs.Cuts.{blocks_in, block_at, first_cuts, cuts_of, cuts_from, cuts}
+use Rattle.wdt_tree.specs.Cuts.{cuts}
 use Rattle.wdt_units.specs.Tree.{File, length_of}
 use Rattle.wdt_tree.specs.Listing.{size_of}
 use Rattle.wdt_tree.specs.Shown.{entry_of_file}
 use Rattle.wdt_tree.proofs.Cuts.{cuts_rest}
 use Rattle.wdt_cli.specs.declared.report.Report.{Report}
 use Rattle.wdt_cli.specs.Lines.{IsReportOf}
-use Rattle.wdt_cli.specs.declared.receiver.Stage.{Stage}
 use Rattle.wdt_cli.specs.declared.receiver.Stage.TheVariants.{Blocks}
 use Rattle.wdt_cli.specs.Sending.{HasRoom, less}
 
 abbrev made : ℕ → ℕ → ℕ → Report
 made files blocks bytes = record { files = files; blocks = blocks; bytes = bytes }
-
--- how many blocks an entry's file has
-abbrev pub blocks_of : Entry → ℕ
-blocks_of entry = blocks_in 16777216 entry.size
-
-length-first_cuts : (most file size n : ℕ) → length (first_cuts most file size n) ≡ n
-length-first_cuts most file size zero = refl
-length-first_cuts most file size (suc n) = omega (arith, length-append (first_cuts most file size n) (block_at most file size n ∷ []), length-first_cuts most file size n)
-
-length-cuts_from : (file : ℕ) (entries : List Entry) → length (cuts_from 16777216 file entries) ≡ sum_by blocks_of entries
-length-cuts_from file [] = refl
-length-cuts_from file (entry ∷ entries) =
-    length-append (cuts_of 16777216 file entry.size) (cuts_from 16777216 (file + 1) entries)
-    ∙ ap (λ n. n + length (cuts_from 16777216 (file + 1) entries)) (length-first_cuts 16777216 file entry.size (blocks_in 16777216 entry.size))
-    ∙ ap (λ n. blocks_of entry + n) (length-cuts_from (file + 1) entries) ∙ sym (sum_by-cons blocks_of entry entries)
-
--- the blocks of a tree
-pub length-cuts : (entries : List Entry) → length (cuts 16777216 entries) ≡ sum_by blocks_of entries
-length-cuts entries = length-cuts_from 0 entries
 
 -- one more entry in a sum
 pub sum-more : (f : Entry → ℕ) (entries : List Entry) (at : ℕ) (entry : Entry) → slice_get entries at ≡ Some entry → sum_by f (take (at + 1) entries) ≡ sum_by f (take at entries) + f entry
@@ -63,9 +43,6 @@ none-left entries at e =
     let files : length entries - at ≡ 0 = omega arith in
     let bytes : sum_by size_of entries - sum_by size_of (take at entries) ≡ 0 = omega (arith, ap (sum_by size_of) all) in
     ap (λ n. Blocks n (sum_by size_of entries - sum_by size_of (take at entries))) files ∙ ap (Blocks 0) bytes
-
-pub all-blocks : (entries : List Entry) (at blocks : ℕ) → at ≡ length entries → blocks ≡ sum_by blocks_of (take at entries) → blocks ≡ length (cuts 16777216 entries)
-all-blocks entries at blocks e sum = sum ∙ ap (sum_by blocks_of) (take_all at entries (omega arith)) ∙ sym (length-cuts entries)
 
 sum_by-files : (files : List File) → sum_by length_of files ≡ sum_by size_of (map entry_of_file files)
 sum_by-files [] = refl

@@ -1,20 +1,19 @@
 -- A file that is sent block by block.
-use Rattle.std.proofs.Common.{◌≡◌, ℕ, ◌+◌, ◌-◌, ◌<◌, ◌≤◌, min, List, [], ◌∷◌, ◌++◌, length, Option, Some, None, IfSome, IsSome, IsTrue, Bool, true, false, ◌&&◌, not, refl, sym, ap, ◌∙◌, subst, append_assoc, arith}
+use Rattle.std.proofs.Common.{◌≡◌, ℕ, ◌+◌, ◌-◌, ◌<◌, ◌≤◌, min, List, [], ◌∷◌, ◌++◌, length, Option, Some, None, IfSome, IsSome, Bool, true, false, not, refl, sym, ap, ◌∙◌, arith}
 use Rattle.std.proofs.lemmas.Bool.{and_parts, eq-eqb, leb-true}
 use Rattle.std.proofs.lemmas.List.{length-append}
 use Rattle.std.proofs.lemmas.Slice.Eq.{bytes_eq-Decides}
-use Rattle.wdt_units.specs.Path.{is_lawful, is_reserved}
+use Rattle.wdt_units.specs.Path.{is_reserved}
 use Rattle.wdt_units.specs.Tree.{File, file_of}
-use Rattle.wdt_units.specs.declared.blocks.Header.{Header}
 use Rattle.wdt_tree.specs.declared.entry.Entry.{Entry}
 use Rattle.wdt_tree.specs.Listing.{is_entry}
-use Rattle.wdt_source.specs.Told.{IsRead, is_within_file}
+use Rattle.wdt_source.specs.Told.{is_within_file}
 use Rattle.wdt_codec.specs.declared.frames.Frame.TheVariants as frames
 use Rattle.wdt_codec.specs.Frames.{FitsHeader}
 use Rattle.wdt_cli.specs.declared.receiver.Stage.{Stage}
 use Rattle.wdt_cli.specs.declared.receiver.Stage.TheVariants as stages
-use Rattle.wdt_cli.specs.Landing.{AddsBlock, HasSize, HasBytes}
-use Rattle.wdt_cli.specs.Received.{Landing, after_frame, after_block, is_next, grown_file}
+use Rattle.wdt_cli.specs.Landing.{HasSize}
+use Rattle.wdt_cli.specs.Received.{Landing, after_frame, is_next}
 use Rattle.wdt_cli.specs.Sending.{Sends, LandsFile, HasRoom, less, header_at, file_with}
 use Rattle.wdt_cli.proofs.Landed.{IsToldFront, told-begins, told-grows, told-within, told-ends}
 use Rattle.wdt_cli.proofs.Receiving.{after-first, after-next}

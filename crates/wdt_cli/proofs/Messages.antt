@@ -2,12 +2,11 @@
 use Rattle.std.proofs.Common.{◌≡◌, ℕ, List, [], ◌∷◌, ◌++◌, ◌-◌, length, take, drop, Option, Some, None, IsSome, Result, Ok, Err, refl, sym, ap, ◌∙◌, subst, append_assoc}
 use Rattle.std.specs.Option.{option_and_then}
 use Rattle.std.proofs.lemmas.List.{append-nil, take_rest, drop_at}
-use Rattle.wdt_codec.specs.declared.frames.Frame.{Frame}
 use Rattle.wdt_units.specs.Tree.{File}
 use Rattle.wdt_units.specs.declared.blocks.Header.{Header}
 use Rattle.wdt_codec.specs.declared.frames.Frame.TheVariants as frames
 use Rattle.wdt_codec.specs.Frames.{FitsHeader, spell}
-use Rattle.wdt_codec.specs.Stream.{Message, IsMessage, AreMessages, spell_message, stream_of}
+use Rattle.wdt_codec.specs.Stream.{Message, IsMessage, AreMessages, stream_of}
 use Rattle.wdt_cli.specs.declared.receiver.Receiver.{Receiver}
 use Rattle.wdt_cli.specs.declared.receiver.TakeFail.{TakeFail}
 use Rattle.wdt_cli.specs.declared.receiver.TakeFail.TheVariants as fails

@@ -1,5 +1,5 @@
 -- A block that is read piece by piece.
-use Rattle.std.proofs.Common.{◌≡◌, ℕ, ◌+◌, ◌≤◌, ◌^◌, List, [], ◌++◌, length, take, drop, Bool, true, Result, Option, Some, None, IfSome, refl, sym, ap, ◌∙◌, append_assoc, arith, subst}
+use Rattle.std.proofs.Common.{◌≡◌, ℕ, ◌+◌, ◌≤◌, List, [], ◌++◌, length, take, drop, true, Result, Option, Some, None, IfSome, refl, sym, ap, ◌∙◌, append_assoc, arith, subst}
 use Rattle.std.proofs.lemmas.List.{append-nil, length-append, drop-drop}
 use Rattle.std.proofs.Math.Seq.{take-add}
 use Rattle.std.proofs.lemmas.Bool.{leb-true, le-leb}

@@ -102,6 +102,10 @@ spell-some (frames.Greeting m) = omega arith
 spell-some (frames.Size files bytes) = omega arith
 spell-some (frames.Block h) = omega arith
 spell-some frames.Done = omega arith
+spell-some (frames.Chunks files) = omega arith
+spell-some frames.Wait = omega arith
+spell-some (frames.ErrMarks ms) = omega arith
+spell-some (frames.Abort code) = omega arith
 
 -- the messages that are left, where some were taken
 pub record Leaves (ms : List Message) (old : Landing) (untaken : List ℕ) (now : Landing) : Type 0 where

@@ -1,28 +1,36 @@
 -- Why a run ended early.
-use Rattle.std.specs.Prelude.{◌≡◌, ℕ, List, Result, Ok, Err, Option, Some, None, IfSome}
+use Rattle.std.specs.Prelude.{◌≡◌, ℕ, ◌<◌, List, [], length, Result, Ok, Err, Option, Some, None, IfSome}
 use Rattle.wdt_units.specs.Counts.{Rises}
 use Rattle.wdt_tree.specs.declared.entry.Entry.{Entry}
-use Rattle.wdt_tree.specs.declared.manifest.ManifestFail.{ManifestFail}
 use Rattle.wdt_tree.specs.declared.manifest.ManifestFail.TheVariants as fail
-use Rattle.wdt_tree.specs.Listing.{IsRefused}
+use Rattle.wdt_units.specs.declared.blocks.Block.{Block}
+use Rattle.wdt_tree.specs.Listing.{IsAccepted, IsRefused, Orders}
+use Rattle.wdt_tree.specs.Rest.{IsRest}
 use Rattle.wdt_cli.specs.declared.status.RefusedKind.{RefusedKind}
-use Rattle.wdt_cli.specs.declared.status.RefusedKind.TheVariants.{BadPath, Reserved, Twice, TooMany, TooLarge}
+use Rattle.wdt_cli.specs.declared.status.RefusedKind.TheVariants.{BadPath, Reserved, Twice, TooMany, TooLarge, TooManyBlocks}
 use Rattle.wdt_cli.specs.declared.status.Status.{Status}
 use Rattle.wdt_cli.specs.declared.status.Status.TheVariants.{Done, Refused, OutFault, NoMemory}
 use Rattle.wdt_cli.specs.declared.rehearse.Failure.{Failure}
 use Rattle.wdt_cli.specs.declared.rehearse.Failure.TheVariants as failure
 
--- what the manifest says of a refused tree
-abbrev pub fail_of : RefusedKind → ManifestFail
-fail_of (BadPath at) = fail.BadPath at
-fail_of (Reserved at) = fail.Reserved at
-fail_of (Twice at) = fail.Twice at
-fail_of (TooMany count) = fail.TooMany count
-fail_of (TooLarge at) = fail.TooLarge at
+-- a listing is a tree's, and what is to be sent of it are so many blocks, which are too many
+pub record HasTooManyBlocks (listing : List Entry) (count : ℕ) : Type 0 where
+  pub accepted : IsAccepted listing
+  pub entries : List Entry
+  pub order : Orders listing entries
+  pub blocks : List Block
+  pub rest : IsRest entries [] 16777216 blocks
+  pub long : count ≡ length blocks
+  pub over : 1048576 < count
 
--- a listing is refused for this
+-- a listing is refused for this: as no tree's, else for too many blocks
 abbrev pub IsRefusedFor : List Entry → RefusedKind → Type 0
-IsRefusedFor entries kind = IsRefused entries (fail_of kind)
+IsRefusedFor listing (BadPath at) = IsRefused listing (fail.BadPath at)
+IsRefusedFor listing (Reserved at) = IsRefused listing (fail.Reserved at)
+IsRefusedFor listing (Twice at) = IsRefused listing (fail.Twice at)
+IsRefusedFor listing (TooMany count) = IsRefused listing (fail.TooMany count)
+IsRefusedFor listing (TooLarge at) = IsRefused listing (fail.TooLarge at)
+IsRefusedFor listing (TooManyBlocks count) = HasTooManyBlocks listing count
 
 -- a listing is refused for this, where it is told
 abbrev pub IsToldRefused : Option (List Entry) → RefusedKind → Type 0

@@ -10,7 +10,7 @@ use Rattle.wdt_cli.specs.declared.report.Report.{Report}
 use Rattle.wdt_cli.specs.declared.status.Status.{Status}
 use Rattle.wdt_cli.specs.declared.status.Status.TheVariants.{Done, Usage, SourceFault, Refused, OutFault, NoMemory}
 use Rattle.wdt_cli.specs.declared.status.RefusedKind.{RefusedKind}
-use Rattle.wdt_cli.specs.declared.status.RefusedKind.TheVariants.{BadPath, Reserved, Twice, TooMany, TooLarge}
+use Rattle.wdt_cli.specs.declared.status.RefusedKind.TheVariants.{BadPath, Reserved, Twice, TooMany, TooLarge, TooManyBlocks}
 
 -- what a run counts that landed these files in so many blocks
 abbrev pub report_of : List File → ℕ → Report
@@ -34,6 +34,7 @@ refusal_of (Reserved at) = codes "reserved " ++ decimal at
 refusal_of (Twice at) = codes "twice " ++ decimal at
 refusal_of (TooMany count) = codes "too many files " ++ decimal count
 refusal_of (TooLarge at) = codes "too large " ++ decimal at
+refusal_of (TooManyBlocks count) = codes "too many blocks " ++ decimal count
 
 -- the line of a run that refused its tree
 abbrev pub refusal_line : RefusedKind → List ℕ

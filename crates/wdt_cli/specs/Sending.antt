@@ -1,6 +1,7 @@
 -- The sending half of a rehearsal: what its messages have landed.
-use Rattle.std.specs.Prelude.{◌≡◌, ℕ, ◌-◌, ◌<◌, ◌≤◌, List, ◌∷◌, [], ◌++◌, length, map, sum_by, Option, Some, IfSome}
+use Rattle.std.specs.Prelude.{◌≡◌, ℕ, ◌+◌, ◌-◌, ◌<◌, ◌≤◌, min, List, ◌∷◌, [], ◌++◌, length, map, Option, Some, IfSome}
 use Rattle.wdt_units.specs.Tree.{File, file_of}
+use Rattle.wdt_units.specs.declared.blocks.Block.{Block}
 use Rattle.wdt_units.specs.declared.blocks.Header.{Header}
 use Rattle.wdt_tree.specs.declared.entry.Entry.{Entry}
 use Rattle.wdt_tree.specs.Shown.{entry_of_file}
@@ -18,6 +19,18 @@ header_at entry offset count = record { path = entry.path; size = entry.size; st
 -- the file of an entry, where it has these bytes
 abbrev pub file_with : Entry → List ℕ → File
 file_with entry bytes = record { path = entry.path; stamp = entry.stamp; bytes = bytes }
+
+-- blocks that follow each other from a place to a file's end, each of a byte or more
+abbrev pub Follow : ℕ → ℕ → List Block → Type 0
+Follow offset size [] = offset ≡ size
+Follow offset size (block ∷ blocks) =
+    (block.offset ≡ offset) × (1 ≤ block.length) × (block.length ≤ 67108864) × (offset + block.length ≤ size) × Follow (offset + block.length) size blocks
+
+-- blocks that follow each other from a file's start to its end; an empty file has one without a byte
+abbrev pub AreBlocks : Entry → List Block → Type 0
+AreBlocks entry [] = ⊥
+AreBlocks entry (block ∷ blocks) =
+    (block.offset ≡ 0) × (min 1 entry.size ≤ block.length) × (block.length ≤ 67108864) × (block.length ≤ entry.size) × Follow block.length entry.size blocks
 
 -- one block was taken, with the told file's bytes
 pub record Sends (told : Option (List File)) (header : Header) (old new : Landing) : Type 0 where

@@ -111,6 +111,9 @@ fn explain_refusal<R: Files + AllocGlobal + Clone + Drop>(
         RefusedKind::TooMany { count } => {
             return eprintln!(rt; "wdt: {count} files, more than 262144");
         }
+        RefusedKind::TooManyBlocks { count } => {
+            return eprintln!(rt; "wdt: {count} blocks of 16777216 bytes, more than 1048576");
+        }
     };
     match source.path_at(alloc, at) {
         Some(path) => {

@@ -140,20 +140,26 @@ impl Receiver {
         ensures stepped { owed_by frame ≤ length self.old.reader.untaken → Steps (after_frame self.old.stage (progress self.old).landed frame (take (owed_by frame) self.old.reader.untaken)) result (progress self.new) }
         ensures left { OnOk result (self.new.reader ≡ record { untaken = drop (owed_by frame) self.old.reader.untaken; owed = 0 }) }
     {
-        match (self.stage, frame) {
-            (Stage::Settings, Frame::Settings(settings)) if is_served(&settings) => {
-                self.stage = Stage::Size;
-            }
-            (Stage::Size, Frame::Size { files, bytes }) => {
-                self.stage = Stage::Blocks { files, bytes };
-            }
-            (Stage::Blocks { files, bytes }, Frame::Block(header)) => {
-                return self.land(files, bytes, header);
-            }
-            (Stage::Blocks { files: 0, bytes: 0 }, Frame::Done) => self.stage = Stage::Bye,
-            (Stage::Bye, Frame::Done) => self.stage = Stage::Over,
-            _ => return Err(TakeFail::Unexpected),
-        }
+        self.stage = match frame {
+            Frame::Settings(settings) => match self.stage {
+                Stage::Settings if is_served(&settings) => Stage::Size,
+                _ => return Err(TakeFail::Unexpected),
+            },
+            Frame::Size { files, bytes } => match self.stage {
+                Stage::Size => Stage::Blocks { files, bytes },
+                _ => return Err(TakeFail::Unexpected),
+            },
+            Frame::Block(header) => match self.stage {
+                Stage::Blocks { files, bytes } => return self.land(files, bytes, header),
+                _ => return Err(TakeFail::Unexpected),
+            },
+            Frame::Done => match self.stage {
+                Stage::Blocks { files: 0, bytes: 0 } => Stage::Bye,
+                Stage::Bye => Stage::Over,
+                _ => return Err(TakeFail::Unexpected),
+            },
+            _other => return Err(TakeFail::Unexpected),
+        };
         Ok(())
     }
 

@@ -4,20 +4,23 @@ ghost use Rattle.wdt_units.specs.Counts.{Stands};
 ghost use Rattle.wdt_tree.specs.Shown.{shown};
 ghost use Rattle.wdt_cli.specs.Lines.{IsReportOf};
 ghost use Rattle.wdt_cli.specs.Causes.{IsCause, IsRefusedFor, RefusesRun};
-ghost use Rattle.wdt_cli.specs.Failures.{refusal_of};
+ghost use Rattle.wdt_cli.specs.Failures.{refusal_of, unplanned_of, IsPlanFailure};
 
 use crate::report::Report;
-use crate::session::transfer;
+use crate::session::{BLOCK, transfer};
 use crate::status::RefusedKind;
 use std::alloc::Global;
+use wdt_discover::{PlanFail, plan};
+use wdt_ranges::Have;
 use wdt_source::{Source, SourceFail};
 use wdt_tree::{Manifest, ManifestFail, Plain};
 
-/// The files that landed, and what was counted.
+/// The files that landed, what was counted, and the bytes of the wire as `Transferred` has them.
 #[derive(Debug, Drop)]
 pub struct Rehearsed {
     pub landed: Vec<Plain>,
     pub report: Report,
+    pub wire: Vec<u8>,
 }
 
 /// Why nothing landed.
@@ -63,16 +66,33 @@ pub fn rehearse<S: Source>(alloc: Global, source: &mut S) -> Result<Rehearsed, F
         Ok(manifest) => manifest,
         Err(fail) => return Err(refusal(fail)),
     };
-    match transfer(alloc, source, &manifest) {
+    let blocks = match plan(alloc, &manifest, &Have::none(alloc), BLOCK) {
+        Ok(blocks) => blocks,
+        Err(fail) => return Err(unplanned(fail)),
+    };
+    match transfer(alloc, source, &manifest, &blocks) {
         Ok(sent) => Ok(Rehearsed {
             landed: sent.landed,
             report: Report {
                 files: manifest.count(),
-                blocks: sent.blocks,
+                blocks: blocks.len() as u64,
                 bytes: manifest.total(),
             },
+            wire: sent.wire,
         }),
         Err(fail) => Err(Failure::from(fail)),
+    }
+}
+
+// A destination that has nothing has nothing stale.
+fn unplanned(fail: PlanFail) -> Failure
+    requires { IsPlanFailure fail }
+    ensures { result ≡ unplanned_of fail }
+{
+    match fail {
+        PlanFail::Stale { .. } => unreachable!(),
+        PlanFail::TooManyBlocks { count } => Failure::Refused(RefusedKind::TooManyBlocks { count }),
+        PlanFail::NoMemory => Failure::NoMemory,
     }
 }
 

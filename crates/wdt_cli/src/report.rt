@@ -38,5 +38,8 @@ pub fn refusal_line(alloc: Global, kind: RefusedKind) -> Result<String, AllocErr
         RefusedKind::Twice { at } => format!(in alloc; "refused: twice {at}\n"),
         RefusedKind::TooMany { count } => format!(in alloc; "refused: too many files {count}\n"),
         RefusedKind::TooLarge { at } => format!(in alloc; "refused: too large {at}\n"),
+        RefusedKind::TooManyBlocks { count } => format!(in alloc;
+            "refused: too many blocks {count}\n"
+        ),
     }
 }

@@ -10,7 +10,7 @@ ghost use Rattle.wdt_codec.specs.Frames.{Fits, owed_by};
 ghost use Rattle.wdt_codec.specs.declared.frames.Frame.TheVariants as frames;
 ghost use Rattle.wdt_cli.specs.Landing.{HasSize};
 ghost use Rattle.wdt_cli.specs.Received.{progress, nothing_held, after_frame};
-ghost use Rattle.wdt_cli.specs.Sending.{Sends, LandsFile, LandsAll, HasRoom, header_at};
+ghost use Rattle.wdt_cli.specs.Sending.{Sends, AreBlocks, LandsFile, LandsAll, HasRoom, header_at};
 ghost use Rattle.wdt_cli.specs.declared.receiver.Stage.TheVariants as stages;
 
 use crate::reading::read_block;
@@ -19,10 +19,10 @@ use std::alloc::Global;
 use wdt_codec::{Frame, Settings, encode};
 use wdt_source::{Source, SourceFail};
 use wdt_tree::{Entry, Manifest, Plain};
-use wdt_units::{Conn, Header, Lane, MAX_BLOCK, Name};
+use wdt_units::{Block, Conn, Header, Lane, MAX_BLOCK, MAX_FILE_SIZE, Name};
 
 /// How many bytes a whole block has.
-const BLOCK: u64 = 16_777_216;
+pub const BLOCK: u32 = 16_777_216;
 
 /// The list of bytes is cleared once it holds this many.
 const KEEP: usize = 16_777_216;
@@ -32,22 +32,21 @@ const KEEP: usize = 16_777_216;
 pub struct Transferred {
     /// The files that landed.
     pub landed: Vec<Plain>,
-    /// How many blocks were sent.
-    pub blocks: u64,
     /// The bytes of the wire, from where the list was cleared last: all of them on a small tree.
     pub wire: Vec<u8>,
 }
 
-/// Sends the tree of a manifest over one lane, and gives what landed.
+/// Sends the blocks of a manifest's tree over one lane, and gives what landed.
 pub fn transfer<S: Source>(
     alloc: Global,
     source: &mut S,
     manifest: &Manifest,
+    blocks: &[Block],
 ) -> Result<Transferred, SourceFail>
-    requires { IfSome (S.told source.old) (λ files. manifest.now ≡ map entry_of_file files) }
+    requires told { IfSome (S.told source.old) (λ files. manifest.now ≡ map entry_of_file files) }
+    requires blocks { blocks.now ≡ cuts BLOCK manifest.now }
     ensures entries { IfOk result (λ run. map entry_of_file (map shown run.landed.items) ≡ manifest.now) }
     ensures tree { IfOk result (λ run. IfSome (S.told source.old) (λ files. map shown run.landed.items ≡ files)) }
-    ensures blocks { IfOk result (λ run. run.blocks ≡ length (cuts BLOCK manifest.now)) }
     ensures cause { HasFault result (S.faults source.old) (S.faults source.new) }
     ensures slips { IfSome (S.told source.old) (λ files. S.slips source.new ≡ S.slips source.old) }
 {
@@ -59,15 +58,11 @@ pub fn transfer<S: Source>(
         bytes: manifest.total(),
     };
     say(&size, &mut wire, &mut receiver)?;
-    let blocks = send_files(alloc, source, manifest, &mut wire, &mut receiver)?;
+    send_files(alloc, source, manifest, blocks, &mut wire, &mut receiver)?;
     say(&Frame::Done, &mut wire, &mut receiver)?;
     say(&Frame::Done, &mut wire, &mut receiver)?;
     let landed = receiver.into_landed()?;
-    Ok(Transferred {
-        landed,
-        blocks,
-        wire,
-    })
+    Ok(Transferred { landed, wire })
 }
 
 // The sender's first frame: session 1, connection 1 of lane 0 of 1. It asks for nothing.
@@ -80,68 +75,83 @@ fn settings() -> Frame
         lane: Lane(0),
         lanes: 1,
         conn: Conn(1),
-        block: BLOCK as u32,
+        block: BLOCK,
         ask: false,
     })
 }
 
-// Sends each file of the manifest, and answers how many blocks were sent.
+// Sends the blocks of each file of the manifest.
 fn send_files<S: Source>(
     alloc: Global,
     source: &mut S,
     manifest: &Manifest,
+    blocks: &[Block],
     wire: &mut Vec<u8>,
     receiver: &mut Receiver,
-) -> Result<u64, SourceFail>
+) -> Result<(), SourceFail>
     requires told { IfSome (S.told source.old) (λ files. manifest.now ≡ map entry_of_file files) }
+    requires blocks { blocks.now ≡ cuts BLOCK manifest.now }
     requires idle { receiver.old.reader ≡ nothing_held }
     requires stage { (progress receiver.old).stage ≡ stages.Blocks (length manifest.now) (sum_by size_of manifest.now) }
     requires none { (progress receiver.old).landed ≡ [] }
     ensures landed { OnOk result (LandsAll (S.told source.old) manifest.now (progress receiver.new)) }
-    ensures blocks { IfOk result (λ blocks. blocks ≡ length (cuts BLOCK manifest.now)) }
     ensures idle { OnOk result (receiver.new.reader ≡ nothing_held) }
     ensures cause { HasFault result (S.faults source.old) (S.faults source.new) }
     ensures slips { IfSome (S.told source.old) (λ files. S.slips source.new ≡ S.slips source.old) }
 {
     let mut piece = Vec::new(alloc);
-    let mut blocks = 0;
+    let mut left = blocks;
     for at in 0..manifest.count() {
-        blocks += send_file(source, manifest.entry(at), &mut piece, wire, receiver)?;
+        let entry = manifest.entry(at);
+        let (own, others) = left.split_at(blocks_in(entry.size));
+        send_file(source, entry, own, &mut piece, wire, receiver)?;
+        left = others;
     }
-    Ok(blocks)
+    Ok(())
 }
 
-// Sends a file in blocks, an empty one in a block without a byte, and answers how many were sent.
+// How many blocks a file has that is sent whole; an empty file has one.
+fn blocks_in(size: u64) -> usize
+    requires { size ≤ MAX_FILE_SIZE }
+    ensures { result ≡ blocks_in BLOCK size }
+{
+    if size == 0 {
+        1
+    } else {
+        size.div_ceil(BLOCK as u64) as usize
+    }
+}
+
+// Sends the blocks of a file.
 fn send_file<S: Source>(
     source: &mut S,
     entry: &Entry,
+    blocks: &[Block],
     piece: &mut Vec<u8>,
     wire: &mut Vec<u8>,
     receiver: &mut Receiver,
-) -> Result<u64, SourceFail>
+) -> Result<(), SourceFail>
     requires lawful { IsTrue (is_entry entry.now) }
     requires size { IfSome (S.told source.old) (λ files. HasSize (file_of files entry.now.path) entry.now.size) }
+    requires blocks { AreBlocks entry.now blocks.now }
     requires idle { receiver.old.reader ≡ nothing_held }
     requires room { HasRoom (progress receiver.old).stage entry.now.size }
     ensures landed { OnOk result (LandsFile (S.told source.old) entry.now (progress receiver.old) (progress receiver.new)) }
-    ensures blocks { IfOk result (λ blocks. blocks ≡ blocks_in BLOCK entry.now.size) }
-    ensures bound { IfOk result (λ blocks. blocks ≤ 2 ^ 18) }
     ensures idle { OnOk result (receiver.new.reader ≡ nothing_held) }
     ensures told { S.told source.new ≡ S.told source.old }
     ensures cause { HasFault result (S.faults source.old) (S.faults source.new) }
     ensures slips { IfSome (S.told source.old) (λ files. S.slips source.new ≡ S.slips source.old) }
 {
-    let first = BLOCK.min(entry.size);
-    send_block(source, entry, 0, first as u32, piece, wire, receiver)?;
-    let mut offset = first;
-    let mut blocks = 1;
-    while offset < entry.size {
-        let count = BLOCK.min(entry.size - offset);
-        send_block(source, entry, offset, count as u32, piece, wire, receiver)?;
-        offset += count;
-        blocks += 1;
+    let Some((first, others)) = blocks.split_first() else {
+        unreachable!();
+    };
+    send_block(source, entry, 0, first.length, piece, wire, receiver)?;
+    let mut offset = first.length as u64;
+    for block in others {
+        send_block(source, entry, offset, block.length, piece, wire, receiver)?;
+        offset += block.length as u64;
     }
-    Ok(blocks)
+    Ok(())
 }
 
 // Sends a block of a file: its header, and its bytes from the source.

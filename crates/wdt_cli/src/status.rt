@@ -14,6 +14,8 @@ pub enum RefusedKind {
     TooMany { count: u32 },
     /// The file at this place has more than 2^40 bytes, or those up to it have more than 2^50.
     TooLarge { at: u32 },
+    /// There would be this many blocks, more than a plan may have: 1,048,576.
+    TooManyBlocks { count: u64 },
 }
 
 /// How a run ends.

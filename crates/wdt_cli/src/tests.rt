@@ -1,14 +1,14 @@
 //! What no clause says: that the runs succeed, and worked examples of their lines.
 ghost use Rattle.std.specs.Prelude.{None};
 
-use crate::session::transfer;
+use crate::rehearse;
 use crate::status::{RefusedKind, Status};
 use crate::tool::tool;
 use std::alloc::Global;
 use std::process::Abort;
 use std::test::Fail;
 use wdt_source::{MemSource, Source, SourceFail};
-use wdt_tree::{Manifest, Plain, RawEntry};
+use wdt_tree::{Plain, RawEntry};
 use wdt_units::{MemSink, Name};
 
 fn words_of(alloc: Global, texts: &[&str]) -> Result<Vec<String>, Fail> {
@@ -109,10 +109,12 @@ fn other_words_are_usage(rt: HostRuntime) -> Result<(), Fail> {
     Ok(())
 }
 
-// A source that lists paths of any kind, each of a file with the same bytes, and tells nothing.
+// A source that lists paths of any kind, each of a file with the same size and bytes, and tells
+// nothing.
 #[derive(Drop)]
 struct Paths {
     paths: Vec<Vec<u8>>,
+    size: u64,
     bytes: Vec<u8>,
 }
 
@@ -130,7 +132,7 @@ impl Source for Paths {
         for path in &self.paths {
             raw.push(RawEntry {
                 path: Vec::from_slice(alloc, path)?,
-                size: self.bytes.len() as u64,
+                size: self.size,
                 stamp: 0,
             })?;
         }
@@ -156,6 +158,7 @@ impl Source for Paths {
 fn paths_of(alloc: Global, paths: &[&[u8]], bytes: &[u8]) -> Result<Paths, Fail> {
     let mut source = Paths {
         paths: Vec::new(alloc),
+        size: bytes.len() as u64,
         bytes: Vec::from_slice(alloc, bytes)?,
     };
     for path in paths {
@@ -205,6 +208,30 @@ fn paths_are_refused_at_their_place(rt: HostRuntime) -> Result<(), Fail> {
     Ok(())
 }
 
+#[test]
+fn more_blocks_than_a_session_has_are_refused(rt: HostRuntime) -> Result<(), Fail> {
+    let paths: [&[u8]; 17] = [
+        b"a", b"b", b"c", b"d", b"e", b"f", b"g", b"h", b"i", b"j", b"k", b"l", b"m", b"n", b"o",
+        b"p", b"q",
+    ];
+    let mut source = paths_of(rt.alloc(), &paths, b"")?;
+    // Each file is 65,536 blocks long.
+    source.size = 1_099_511_627_776;
+    let mut out = MemSink::of(rt.alloc(), Vec::new(rt.alloc()));
+    let words = words_of(rt.alloc(), &["rehearse", "SRC"])?;
+    let tooled = tool(rt.alloc(), &words, &mut source, &mut out);
+    let count = 1_114_112;
+    assert_eq!(rt;
+        tooled.status,
+        Status::Refused(RefusedKind::TooManyBlocks { count })
+    );
+    assert_eq!(rt;
+        out.bytes(),
+        b"refused: too many blocks 1114112\n".as_slice()
+    );
+    Ok(())
+}
+
 // Settings of version 1, session 1, lane 0 of 1, connection 1, blocks of 16,777,216 bytes; then the
 // size, each block behind its header, and two times the last word.
 #[test]
@@ -224,8 +251,7 @@ fn the_wire_has_settings_size_blocks_and_done_twice(rt: HostRuntime) -> Result<(
     ];
     for (paths, wire) in wires {
         let mut source = paths_of(rt.alloc(), paths, b"hi")?;
-        let manifest = Manifest::check(rt.alloc(), source.list(rt.alloc())?)?;
-        let sent = transfer(rt.alloc(), &mut source, &manifest)?;
+        let sent = rehearse::rehearse(rt.alloc(), &mut source)?;
         assert_eq!(rt; sent.wire.as_slice(), wire);
         assert_eq!(rt; sent.landed.len(), paths.len());
     }

@@ -63,7 +63,7 @@ fn report<O: Sink>(alloc: Global, rehearsed: Rehearsed, out: &mut O) -> Tooled
     ensures prints { Prints result.status (map shown result.landed.items) (O.faults out.old) (O.faults out.new) (O.written out.old) (O.written out.new) }
     ensures cause { IsReportEnd result.status (O.faults out.old) (O.faults out.new) }
 {
-    let Rehearsed { landed, report } = rehearsed;
+    let Rehearsed { landed, report, .. } = rehearsed;
     let Ok(text) = done_text(alloc, &report) else {
         return nothing(alloc, Status::NoMemory);
     };

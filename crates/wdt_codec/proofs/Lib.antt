@@ -1,4 +1,5 @@
 pub mod Field
+pub mod HaveExact
 pub mod Digits
 pub mod Fronts
 pub mod PathField
@@ -6,3 +7,7 @@ pub mod Exact
 pub mod Verdict
 pub mod Untaken
 pub mod Readings
+pub mod SpansRead
+pub mod Appending
+pub mod Failing
+pub mod PartialFiles

@@ -15,7 +15,7 @@ use Rattle.wdt_units.proofs.PathBytes.{leaves_need, FitsByte, Ends}
 use Rattle.wdt_units.proofs.PathParts.{path-lawful}
 use Rattle.wdt_codec.specs.declared.stop.Stop.{Stop}
 use Rattle.wdt_codec.specs.declared.stop.Stop.TheVariants.{NotYet, Bad}
-use Rattle.wdt_codec.specs.Frames.{path_at}
+use Rattle.wdt_codec.specs.Paths.{path_at}
 use Rattle.wdt_codec.specs.Reading.{Reading, byte_where, except, times, with_front}
 use Rattle.wdt_codec.proofs.Field.{AreBytes, IsExact, made-exact-id, FitTimes, times-exact, byte-exact, times-goes, times-stops, times-ends}
 use Rattle.wdt_codec.proofs.Fronts.{Beside, except-exact}

@@ -19,6 +19,10 @@ some_byte (frames.Greeting m) = omega arith
 some_byte (frames.Size files bytes) = omega arith
 some_byte (frames.Block h) = omega arith
 some_byte frames.Done = omega arith
+some_byte (frames.Chunks fs) = omega arith
+some_byte frames.Wait = omega arith
+some_byte (frames.ErrMarks ms) = omega arith
+some_byte (frames.Abort n) = omega arith
 
 none_is : (m : Message) (rest : List ℕ) → [] ≡ (spell m.frame ++ m.raw) ++ rest → ⊥
 none_is m rest e = absurd (omega (arith, some_byte m.frame, ap length e, length-append (spell m.frame ++ m.raw) rest, length-append (spell m.frame) m.raw))

@@ -1,5 +1,6 @@
 -- What an exact reading says of the bytes, and that it says each thing exactly where it is right.
-use Rattle.std.proofs.Common.{◌≡◌, ℕ, zero, suc, ◌+◌, ◌-◌, ◌<◌, ◌≤◌, List, [], ◌∷◌, ◌++◌, length, take, drop, Result, Ok, Err, refl, sym, ap, subst, ◌∙◌, append_assoc, arith, inl, inr}
+use Rattle.std.proofs.Common.{◌≡◌, ℕ, zero, suc, ◌+◌, ◌-◌, ◌<◌, ◌≤◌, ◌*◌, List, [], ◌∷◌, ◌++◌, length, take, drop, Result, Ok, Err, refl, sym, ap, subst, ◌∙◌, append_assoc, arith, inl, inr}
+use Rattle.std.specs.List.{flat_map}
 use Rattle.std.proofs.lemmas.List.{append-nil, length-append, take_at, take-append-drop, take-take, take-append-le, length-take}
 use Rattle.std.proofs.lemmas.Bool.{cases_lt, cases_order}
 use Rattle.wdt_codec.specs.declared.stop.Stop.{Stop}
@@ -10,10 +11,12 @@ use Rattle.wdt_codec.specs.declared.fails.ReadFail.TheVariants as fails
 use Rattle.wdt_codec.specs.declared.frames.Frame.{Frame}
 use Rattle.wdt_codec.specs.declared.frames.Frame.TheVariants as frames
 use Rattle.wdt_codec.specs.Reading.{Fails}
-use Rattle.wdt_codec.specs.Frames.{Fits, spell, frame_at}
+use Rattle.wdt_codec.specs.declared.frames.Mark.{Mark}
+use Rattle.wdt_codec.specs.Frames.{Fits, spell_mark, spell, frame_at}
 use Rattle.wdt_codec.specs.Grammar.{Starts, IsFront, IsBadAt, IsFrame}
 use Rattle.wdt_codec.proofs.Field.{AreBytes, AreBytes-append, done, ok_is}
 use Rattle.wdt_codec.proofs.Exact.{frame-exact}
+use Rattle.wdt_codec.proofs.HaveExact.{chunks-short}
 
 ok_err : {A : Type 0} (x : A) (d : Stop) → ◌≡◌ {A = Result A Stop} (Ok x) (Err d) → ⊥
 ok_err x d e = absurd cc
@@ -167,17 +170,25 @@ stopped_short x v e h = subst (λ (y : ReadFail). Fails y v) e h
 pub stopped_bad : (x : ReadFail) (left : ℕ) (v : Result (Frame × List ℕ) Stop) → x ≡ fails.Bad left → Fails x v → v ≡ Err (Bad left)
 stopped_bad x left v e h = subst (λ (y : ReadFail). Fails y v) e h
 
--- ---- a spelling has at most 1,055 bytes
+-- ---- a spelling has at most 295,174,149 bytes
 
-spelled_short : (f : Frame) → Fits f → length (spell f) ≤ 1055
+length-marks : (ms : List Mark) → length (flat_map spell_mark ms) ≡ 5 * length ms
+length-marks [] = refl
+length-marks (m ∷ ms) = let r = length-marks ms in simp length-append (omega (arith, r))
+
+spelled_short : (f : Frame) → Fits f → length (spell f) ≤ 295174149
 spelled_short (frames.Size files bytes) f = omega arith
 spelled_short (frames.Settings s) f = omega arith
 spelled_short frames.Done f = omega arith
 spelled_short (frames.Greeting m) f = omega arith
 spelled_short (frames.Block h) f = let most : length h.path ≤ 1024 = ((lawful h.path).0 f.path).most in simp length-append (omega arith)
+spelled_short (frames.Chunks fs) f = let r = chunks-short fs f in omega (arith, r)
+spelled_short frames.Wait f = omega arith
+spelled_short (frames.ErrMarks ms) f = let r = length-marks ms in simp length-append (omega (arith, r, f.most))
+spelled_short (frames.Abort n) f = omega arith
 
-front_short : (bytes : List ℕ) → IsFront bytes → length bytes < 1055
+front_short : (bytes : List ℕ) → IsFront bytes → length bytes < 295174149
 front_short bytes (f, h, b, more, is) = omega (arith, spelled_short f h, ap length is, length-append bytes (b ∷ more))
 
-pub place-short : (bytes : List ℕ) (i : ℕ) → IsBadAt bytes i → i < 1055
+pub place-short : (bytes : List ℕ) (i : ℕ) → IsBadAt bytes i → i < 295174149
 place-short bytes i h = omega (arith, front_short (take i bytes) h.hope, h.within, length-take i bytes)

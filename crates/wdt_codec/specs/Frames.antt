@@ -1,15 +1,16 @@
 -- The frames of the grammar, their spellings, and how they are read.
 use Rattle.std.specs.Prelude.{◌≡◌, ℕ, ◌+◌, ◌-◌, ◌<◌, ◌≤◌, min, Bool, true, false, List, [], ◌∷◌, ◌++◌, length, Ok, IsTrue, ◌==◌}
+use Rattle.std.specs.List.{flat_map}
 use Rattle.byteorder.specs.Endian.{big_bytes}
 use Rattle.wdt_units.specs.declared.blocks.Header.{Header}
-use Rattle.wdt_units.specs.declared.scan.PathScan.TheVariants.{Start}
 use Rattle.wdt_units.specs.Path.{is_lawful, is_reserved}
-use Rattle.wdt_units.specs.Scan.{next, leaves, scan_after}
 use Rattle.wdt_codec.specs.declared.frames.Frame.{Frame}
 use Rattle.wdt_codec.specs.declared.frames.Frame.TheVariants as frames
 use Rattle.wdt_codec.specs.declared.frames.Mark.{Mark}
 use Rattle.wdt_codec.specs.declared.frames.Settings.{Settings}
-use Rattle.wdt_codec.specs.Reading.{Reading, both, made, alt, except, unknown, byte_where, times, number_at}
+use Rattle.wdt_codec.specs.Chunks.{FitsChunks, spell_chunks, chunks_at}
+use Rattle.wdt_codec.specs.Paths.{path_at}
+use Rattle.wdt_codec.specs.Reading.{Reading, both, made, alt, except, unknown, times, number_at}
 
 -- ---- which frames are in the grammar
 
@@ -24,6 +25,16 @@ pub record FitsSettings (s : Settings) : Type 0 where
 pub record FitsMark (m : Mark) : Type 0 where
   pub lane : m.lane.0 ≤ 15
   pub count : m.count ≤ 1048576
+
+-- the lanes rise from low on
+abbrev pub FitMarks : ℕ → List Mark → Type 0
+FitMarks low [] = Unit {0}
+FitMarks low (m ∷ ms) = FitsMark m × (low ≤ m.lane.0) × FitMarks (m.lane.0 + 1) ms
+
+pub record FitsMarks (ms : List Mark) : Type 0 where
+  pub some : 1 ≤ length ms
+  pub most : length ms ≤ 15
+  pub rise : FitMarks 0 ms
 
 pub record FitsSize (files bytes : ℕ) : Type 0 where
   pub few : files ≤ 262144
@@ -46,6 +57,10 @@ Fits (frames.Greeting m) = FitsMark m
 Fits (frames.Size files bytes) = FitsSize files bytes
 Fits (frames.Block h) = FitsHeader h
 Fits frames.Done = Unit {0}
+Fits (frames.Chunks files) = FitsChunks files
+Fits frames.Wait = Unit {0}
+Fits (frames.ErrMarks ms) = FitsMarks ms
+Fits (frames.Abort code) = code ≤ 255
 
 -- how many raw bytes follow a frame
 abbrev pub owed_by : Frame → ℕ
@@ -65,6 +80,10 @@ spell_settings s = big_bytes 2 s.version ++ (big_bytes 8 s.session ++ (big_bytes
 abbrev pub spell_mark : Mark → List ℕ
 spell_mark m = big_bytes 1 m.lane.0 ++ big_bytes 4 m.count
 
+-- how many, and each of them
+abbrev pub spell_marks : List Mark → List ℕ
+spell_marks ms = big_bytes 1 (length ms) ++ flat_map spell_mark ms
+
 abbrev pub spell_size : ℕ → ℕ → List ℕ
 spell_size files bytes = big_bytes 4 files ++ big_bytes 8 bytes
 
@@ -78,6 +97,10 @@ spell (frames.Greeting m) = 0x47 ∷ spell_mark m
 spell (frames.Size files bytes) = 0x5A ∷ spell_size files bytes
 spell (frames.Block h) = 0x44 ∷ spell_header h
 spell frames.Done = 0x4C ∷ []
+spell (frames.Chunks files) = 0x43 ∷ spell_chunks files
+spell frames.Wait = 0x57 ∷ []
+spell (frames.ErrMarks ms) = 0x45 ∷ spell_marks ms
+spell (frames.Abort code) = 0x41 ∷ big_bytes 1 code
 
 -- ---- how they are read
 
@@ -94,18 +117,32 @@ settings_at = made settings_of (both (number_at 2 0 65535) λ version. both (num
 abbrev pub mark_of : ℕ × ℕ → Mark
 mark_of (lane, count) = record { lane = record { 0 = lane }; count = count }
 
-unfoldable pub mark_at : Reading Mark
-mark_at = made mark_of (both (number_at 1 0 15) λ lane. number_at 4 0 1048576)
+-- a mark of a lane from low to high
+unfoldable pub mark_at : ℕ → ℕ → Reading Mark
+mark_at low high = made mark_of (both (number_at 1 low high) λ lane. number_at 4 0 1048576)
+
+-- each leaves room for the lanes of those behind it
+abbrev pub mark_step : ℕ → ℕ → Reading Mark
+mark_step more low = mark_at low (15 - more)
+
+abbrev pub lane_after : ℕ → Mark → ℕ
+lane_after low m = m.lane.0 + 1
+
+-- so many marks of lanes from low on
+abbrev pub marks_from : ℕ → ℕ → Reading (List Mark)
+marks_from n low = times mark_step lane_after n low
+
+abbrev pub marks_of : ℕ × List Mark → List Mark
+marks_of (n, ms) = ms
+
+unfoldable pub marks_at : Reading (List Mark)
+marks_at = made marks_of (both (number_at 1 1 15) λ n. marks_from n 0)
 
 abbrev pub size_of : ℕ × ℕ → Frame
 size_of (files, bytes) = frames.Size files bytes
 
 unfoldable pub size_at : Reading (ℕ × ℕ)
 size_at = both (number_at 4 0 262144) λ files. number_at 8 0 1125899906842624
-
--- the bytes of a path, so many: each leaves room for those that must follow it
-unfoldable pub path_at : ℕ → Reading (List ℕ)
-path_at n = times (λ more s. byte_where (λ b. leaves more (next s b))) scan_after n Start
 
 abbrev pub HeaderParts : Type 0
 HeaderParts = ℕ × (List ℕ × (ℕ × (ℕ × (ℕ × ℕ))))
@@ -119,6 +156,16 @@ header_at = made header_of (both (number_at 2 1 1024) λ n. both (except is_rese
 abbrev pub done_of : Unit {0} → Frame
 done_of u = frames.Done
 
+abbrev pub wait_of : Unit {0} → Frame
+wait_of u = frames.Wait
+
+-- nothing more
+abbrev pub nothing_at : Reading (Unit {0})
+nothing_at bytes = Ok (tt, bytes)
+
+unfoldable pub code_at : Reading ℕ
+code_at = number_at 1 0 255
+
 -- one of them by its command byte
 unfoldable pub frame_at : Reading Frame
-frame_at = alt 0x5A size_of size_at (alt 0x53 frames.Settings settings_at (alt 0x4C done_of (λ bytes. Ok (tt, bytes)) (alt 0x47 frames.Greeting mark_at (alt 0x44 frames.Block header_at unknown))))
+frame_at = alt 0x5A size_of size_at (alt 0x57 wait_of nothing_at (alt 0x53 frames.Settings settings_at (alt 0x4C done_of nothing_at (alt 0x47 frames.Greeting (mark_at 0 15) (alt 0x45 frames.ErrMarks marks_at (alt 0x44 frames.Block header_at (alt 0x43 frames.Chunks chunks_at (alt 0x41 frames.Abort code_at unknown))))))))

@@ -4,6 +4,7 @@ ghost use Rattle.wdt_codec.specs.Reading.{failed};
 ghost use Rattle.wdt_codec.specs.declared.fails.ReadFail.TheVariants as fails;
 
 use crate::stop::Stop;
+use std::alloc::AllocFailed;
 use thiserror::Error;
 use wdt_units::NoMemory;
 
@@ -55,6 +56,14 @@ impl From<NoMemory> for ReadFail {
     ghost from_gives = { λ _ e. e ≡ fails.NoMemory };
 
     fn from(_: NoMemory) -> ReadFail {
+        ReadFail::NoMemory
+    }
+}
+
+impl<T: Drop> From<AllocFailed<T>> for ReadFail {
+    ghost from_gives = { λ _ e. e ≡ fails.NoMemory };
+
+    fn from(_: AllocFailed<T>) -> ReadFail {
         ReadFail::NoMemory
     }
 }

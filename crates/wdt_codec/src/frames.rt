@@ -1,4 +1,6 @@
 //! The frames.
+use crate::marks::Marks;
+use wdt_ranges::Have;
 use wdt_units::{Conn, Header, Lane};
 
 /// A lane and a count of its blocks.
@@ -41,4 +43,12 @@ pub enum Frame {
     Block(Header),
     /// Nothing more is to come.
     Done,
+    /// What the receiver has: 0 to 262,144 files, with 0 to 1,310,720 spans in all.
+    Chunks(Have),
+    /// The receiver waits for other lanes.
+    Wait,
+    /// Lanes that are given up, 1 to 15 of them rising, and how many blocks of each the receiver has.
+    ErrMarks(Marks),
+    /// The end has failed, with this code.
+    Abort(u8),
 }

@@ -9,22 +9,29 @@
 //! with which none begins. A new frame is a new alternative.
 #![tactic(auto)]
 
+mod append;
+mod chunks;
 mod counts;
 mod fails;
+mod files;
 mod frames;
 mod headers;
 mod laws;
+mod marks;
 mod numbers;
 mod paths;
 mod reader;
 mod reading;
 mod settings;
+mod spans;
 mod stop;
 mod writing;
+mod writing_chunks;
 
 pub use fails::{NextFail, PieceFail};
 pub use frames::{Frame, Mark, Settings};
 pub use laws::streams_have_one_reading;
+pub use marks::Marks;
 pub use reader::Reader;
 pub use reading::read_frame;
 pub use writing::encode;

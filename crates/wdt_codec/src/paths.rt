@@ -1,7 +1,7 @@
 //! The path of a block.
 ghost use Rattle.std.specs.Prelude.{◌≡◌, ◌≤◌, length, take, drop, IfOk, OnOk, IsTrue};
 ghost use Rattle.wdt_units.specs.Path.{is_lawful, is_reserved};
-ghost use Rattle.wdt_codec.specs.Frames.{path_at};
+ghost use Rattle.wdt_codec.specs.Paths.{path_at};
 ghost use Rattle.wdt_codec.specs.Reading.{Answers, except};
 
 use crate::stop::Stop;
@@ -21,6 +21,17 @@ pub fn free_path(bytes: &[u8], count: usize) -> Result<(&[u8], &[u8]), Stop>
         return Err(Stop::Bad(rest.len() + 1));
     }
     Ok((path, rest))
+}
+
+/// The `count` bytes of a path.
+pub fn any_path(bytes: &[u8], count: usize) -> Result<(&[u8], &[u8]), Stop>
+    requires some { 1 ≤ count }
+    requires most { count ≤ 1024 }
+    ensures reads { Answers (λ x. (x.0.now, x.1.now)) result (path_at count bytes.now) }
+    ensures lawful { IfOk result (λ x. IsTrue (is_lawful x.0.now)) }
+{
+    scan_path(bytes, count)?;
+    Ok(bytes.split_at(count))
 }
 
 // Byte by byte: the place where no path of `count` bytes begins so, or that more bytes are wanted.

@@ -4,9 +4,10 @@ ghost use Rattle.wdt_codec.specs.declared.frames.Frame.{Frame as AFrame};
 ghost use Rattle.wdt_codec.specs.Frames.{owed_by};
 ghost use Rattle.wdt_codec.specs.Grammar.{IsFrame, IsReason, IsFront, IsBadAt, Finds, IsNotYet, IsBad, with_rest};
 
+use crate::chunks::Partial;
 use crate::fails::{NextFail, PieceFail};
 use crate::frames::Frame;
-use crate::reading::read_frame;
+use crate::reading::read_on;
 use std::alloc::Global;
 use std::marker::Model;
 use wdt_units::NoMemory;
@@ -14,7 +15,9 @@ use wdt_units::NoMemory;
 /// Takes a stream in pieces, cut anywhere, and gives its frames and the raw bytes of its blocks. It
 /// is seen as the bytes that were fed and not taken, and how many bytes of the last block are owed.
 ///
-/// Room grows with the bytes that were fed, never by a length that a frame states.
+/// Room grows with the bytes that were fed, never by a length that a frame states. A frame that isn't
+/// there in full is read again with the bytes that come next, but a Chunks goes on at the file where it
+/// stopped.
 #[derive(Drop)]
 pub struct Reader {
     alloc: Global,
@@ -22,17 +25,20 @@ pub struct Reader {
     // Where the bytes that weren't taken begin.
     start: usize,
     owed: u32,
+    // The files of a Chunks that has come in part.
+    partial: Option<Partial>,
 }
 
 impl Model for Reader {
-    ghost use Rattle.std.specs.Prelude.{◌≤◌, length, drop};
+    ghost use Rattle.std.specs.Prelude.{◌≤◌, length, drop, IfSome};
+    ghost use Rattle.wdt_codec.specs.Partial.{Stands};
     ghost use Rattle.wdt_codec.specs.Stream.{Held};
 
     ghost Value = { Held };
 
     ghost view = { λ r. record { untaken = drop r.start r.bytes.items; owed = r.owed } };
 
-    ghost invariant = { λ r. r.start ≤ length r.bytes.items };
+    ghost invariant = { λ r. (r.start ≤ length r.bytes.items) × IfSome r.partial (λ p. Stands p (drop 1 (drop r.start r.bytes.items))) };
 }
 
 impl Reader {
@@ -45,6 +51,7 @@ impl Reader {
             bytes: Vec::new(alloc),
             start: 0,
             owed: 0,
+            partial: None,
         }
     }
 
@@ -74,7 +81,7 @@ impl Reader {
         ensures not_yet { IsFront self.old.untaken → IsNotYet result }
         ensures bad { (i : ℕ) → IsBadAt self.old.untaken i → IsBad result i }
     {
-        match read_frame(self.alloc, &self.bytes[self.start..]) {
+        match read_on(self.alloc, &mut self.partial, &self.bytes[self.start..]) {
             Ok((frame, rest)) => {
                 let left = rest.len();
                 self.start = self.bytes.len() - left;
@@ -112,6 +119,7 @@ impl Reader {
             Ok(piece) => {
                 self.start = end;
                 self.owed -= count;
+                self.partial = None;
                 Ok(piece)
             }
             Err(NoMemory) => Err(PieceFail::NoMemory),

@@ -1,9 +1,12 @@
 //! A frame's spelling.
 ghost use Rattle.std.specs.Prelude.{◌≡◌, ◌∷◌, ◌++◌, ◌≤◌, ◌<◌, length, take, drop, OnOk, OnErr};
 ghost use Rattle.byteorder.specs.Endian.{big_bytes};
-ghost use Rattle.wdt_codec.specs.Frames.{Fits, FitsHeader, FitsMark, flag, spell, spell_settings, spell_mark, spell_size, spell_header};
+ghost use Rattle.wdt_codec.specs.Frames.{Fits, FitsHeader, flag, spell, spell_settings, spell_mark, spell_marks, spell_size, spell_header};
 
+use crate::append::{append, append_all, put_byte};
 use crate::frames::{Frame, Mark, Settings};
+use crate::marks::Marks;
+use crate::writing_chunks::append_chunks;
 use byteorder::{BigEndian, ByteOrder};
 use wdt_units::{Header, NoMemory};
 
@@ -20,16 +23,10 @@ pub fn encode(frame: &Frame, into: &mut Vec<u8>) -> Result<(), NoMemory>
         Frame::Size { files, bytes } => append(into, &size_text(*files, *bytes)),
         Frame::Block(header) => append_header(into, header),
         Frame::Done => append(into, &[0x4C]),
-    }
-}
-
-fn append(into: &mut Vec<u8>, text: &[u8]) -> Result<(), NoMemory>
-    ensures spelled { OnOk result (into.new.items ≡ into.old.items ++ text.now) }
-    ensures unchanged { OnErr result (into.new.items ≡ into.old.items) }
-{
-    match into.extend_from_slice(text) {
-        Ok(()) => Ok(()),
-        Err(_) => Err(NoMemory),
+        Frame::Chunks(have) => append_chunks(into, have),
+        Frame::Wait => append(into, &[0x57]),
+        Frame::ErrMarks(marks) => append_err(into, marks),
+        Frame::Abort(code) => append(into, &[0x41, *code]),
     }
 }
 
@@ -45,13 +42,6 @@ fn settings_text(settings: &Settings) -> [u8; 20]
     BigEndian::write_u32(&mut text[15..], settings.block);
     put_byte(&mut text[19..], flag(settings.ask));
     text
-}
-
-fn put_byte(text: &mut [u8], byte: u8)
-    requires { 1 ≤ length text.old }
-    ensures { text.new ≡ big_bytes 1 byte ++ drop 1 text.old }
-{
-    text[0] = byte;
 }
 
 fn flag(ask: bool) -> u8
@@ -105,15 +95,6 @@ fn front_text(length: u16) -> [u8; 3]
     text
 }
 
-fn append_all(into: &mut Vec<u8>, a: &[u8], b: &[u8], c: &[u8]) -> Result<(), NoMemory>
-    ensures spelled { OnOk result (into.new.items ≡ into.old.items ++ (a.now ++ (b.now ++ c.now))) }
-    ensures begun { OnErr result (take (length into.old.items) into.new.items ≡ into.old.items) }
-{
-    append(into, a)?;
-    append(into, b)?;
-    append(into, c)
-}
-
 fn part_text(header: &Header) -> [u8; 28]
     ensures { result ≡ big_bytes 8 header.now.size ++ (big_bytes 8 header.now.stamp ++ (big_bytes 8 header.now.offset ++ big_bytes 4 header.now.length)) }
 {
@@ -123,4 +104,32 @@ fn part_text(header: &Header) -> [u8; 28]
     BigEndian::write_u64(&mut text[16..], header.offset);
     BigEndian::write_u32(&mut text[24..], header.length);
     text
+}
+
+// A failure on the way takes back what is there of the frame.
+fn append_err(into: &mut Vec<u8>, marks: &Marks) -> Result<(), NoMemory>
+    requires { length marks.now ≤ 15 }
+    ensures spelled { OnOk result (into.new.items ≡ into.old.items ++ 0x45 ∷ spell_marks marks.now) }
+    ensures unchanged { OnErr result (into.new.items ≡ into.old.items) }
+{
+    let before = into.len();
+    match append_marks(into, marks.items()) {
+        Ok(()) => Ok(()),
+        Err(fail) => {
+            into.truncate(before);
+            Err(fail)
+        }
+    }
+}
+
+fn append_marks(into: &mut Vec<u8>, marks: &[Mark]) -> Result<(), NoMemory>
+    requires { length marks.now ≤ 15 }
+    ensures spelled { OnOk result (into.new.items ≡ into.old.items ++ 0x45 ∷ spell_marks marks.now) }
+    ensures begun { OnErr result (take (length into.old.items) into.new.items ≡ into.old.items) }
+{
+    append(into, &[0x45, marks.len() as u8])?;
+    for mark in marks {
+        append(into, &mark_text(mark)[1..])?;
+    }
+    Ok(())
 }

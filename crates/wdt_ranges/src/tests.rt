@@ -1,84 +1,75 @@
 //! What no clause says: worked rows, and that each call succeeds where there is memory.
 #![tactic(auto, using(crate::proofs::Apart::span_from))]
 
-ghost use Rattle.std.specs.Prelude.{◌≡◌};
-
 use crate::{AddFail, FileHave, Have, Ranges, Span};
 use std::alloc::Global;
 use std::test::Fail;
 use wdt_units::Name;
 
-fn span(offset: u64, length: u64) -> Span
-    ensures offset { result.offset ≡ offset }
-    ensures length { result.length ≡ length }
-{
-    Span { offset, length }
+fn same(spans: &[Span], want: &[(u64, u64)]) -> bool {
+    if spans.len() != want.len() {
+        return false;
+    }
+    for at in 0..spans.len() {
+        if (spans[at].offset, spans[at].length) != want[at] {
+            return false;
+        }
+    }
+    true
 }
 
 #[test]
 fn adds(rt: HostRuntime) -> Result<(), Fail> {
     let mut ranges = Ranges::none(rt.alloc());
-    for (offset, length, want, spans, total) in [
-        (0, 4, Ok(()), [span(0, 4)].as_slice(), 4),
-        (8, 2, Ok(()), &[span(0, 4), span(8, 2)], 6),
-        (
-            3,
-            1,
-            Err(AddFail::Overlap { first: 3 }),
-            &[span(0, 4), span(8, 2)],
-            6,
-        ),
-        (
-            5,
-            9,
-            Err(AddFail::Overlap { first: 8 }),
-            &[span(0, 4), span(8, 2)],
-            6,
-        ),
-        (4, 4, Ok(()), &[span(0, 10)], 10),
-        (20, 5, Ok(()), &[span(0, 10), span(20, 5)], 15),
-        (14, 1, Ok(()), &[span(0, 10), span(14, 1), span(20, 5)], 16),
-        (10, 2, Ok(()), &[span(0, 12), span(14, 1), span(20, 5)], 18),
-        (19, 1, Ok(()), &[span(0, 12), span(14, 1), span(19, 6)], 19),
+    for (offset, length, first, spans) in [
+        (0, 4, None, [(0, 4)].as_slice()),
+        (8, 2, None, &[(0, 4), (8, 2)]),
+        (3, 1, Some(3), &[(0, 4), (8, 2)]),
+        (5, 9, Some(8), &[(0, 4), (8, 2)]),
+        (4, 4, None, &[(0, 10)]),
+        (20, 5, None, &[(0, 10), (20, 5)]),
+        (14, 1, None, &[(0, 10), (14, 1), (20, 5)]),
+        (10, 2, None, &[(0, 12), (14, 1), (20, 5)]),
+        (19, 1, None, &[(0, 12), (14, 1), (19, 6)]),
     ] {
         assert!(rt; offset < 100 && length > 0 && length < 100);
-        let got = ranges.add(span(offset, length));
-        assert_eq!(rt; got, want, "{offset} {length}");
-        assert_eq!(rt; ranges.spans(), spans, "{offset} {length}");
-        assert_eq!(rt; ranges.total(), total, "{offset} {length}");
+        let got = match ranges.add(Span { offset, length }) {
+            Ok(()) => None,
+            Err(AddFail::Overlap { first }) => Some(first),
+            Err(AddFail::NoMemory) => Some(100),
+        };
+        assert!(rt;
+            got == first && same(ranges.spans(), spans),
+            "{offset} {length}"
+        );
     }
+    assert_eq!(rt; ranges.total(), 19);
     let copy = ranges.copy()?;
-    assert_eq!(rt; copy.spans(), ranges.spans());
-    assert!(rt; ranges.covers(span(2, 10)));
-    assert!(rt; !ranges.covers(span(2, 11)));
-    assert!(rt; !ranges.covers(span(12, 1)));
+    assert!(rt; same(copy.spans(), &[(0, 12), (14, 1), (19, 6)]));
     Ok(())
 }
 
 #[test]
 fn leaves_gaps(rt: HostRuntime) -> Result<(), Fail> {
     let mut ranges = Ranges::none(rt.alloc());
-    for (size, gaps) in [(0, [].as_slice()), (3, &[span(0, 3)])] {
-        assert!(rt; size < 100);
-        assert_eq!(rt; ranges.gaps(size)?.as_slice(), gaps, "{size}");
+    for (offset, length) in [(0, 4), (8, 2)] {
+        assert!(rt; offset < 100 && length > 0 && length < 100);
+        ranges.add(Span { offset, length })?;
     }
-    ranges.add(span(0, 4))?;
-    ranges.add(span(8, 2))?;
-    for (size, gaps) in [
-        (12, [span(4, 4), span(10, 2)].as_slice()),
-        (9, &[span(4, 4)]),
-        (6, &[span(4, 2)]),
-        (2, &[]),
-    ] {
+    assert_eq!(rt; ranges.total(), 6);
+    for (size, gaps) in [(12, [(4, 4), (10, 2)].as_slice()), (9, &[(4, 4)]), (2, &[])] {
         assert!(rt; size < 100);
-        assert_eq!(rt; ranges.gaps(size)?.as_slice(), gaps, "{size}");
+        assert!(rt; same(&ranges.gaps(size)?, gaps), "{size}");
     }
     Ok(())
 }
 
 fn file(alloc: Global, path: &[u8]) -> Result<FileHave, Fail> {
     let mut spans = Ranges::none(alloc);
-    spans.add(span(1, 2))?;
+    spans.add(Span {
+        offset: 1,
+        length: 2,
+    })?;
     Ok(FileHave {
         path: Name::read(alloc, path)?,
         size: 5,
@@ -103,10 +94,9 @@ fn tells_the_order(rt: HostRuntime) -> Result<(), Fail> {
         }
         assert!(rt; files.len() < 10);
         let have = Have::of(files).copy()?;
-        assert_eq!(rt; have.in_order(), want, "{first:?} {second:?} {third:?}");
+        assert_eq!(rt; have.in_order(), want);
         for file in have.files() {
-            assert_eq!(rt; (file.size, file.stamp), (5, 7));
-            assert_eq!(rt; file.spans.spans(), [span(1, 2)].as_slice());
+            assert!(rt; file.size == 5 && file.stamp == 7 && same(file.spans.spans(), &[(1, 2)]));
         }
     }
     Ok(())

@@ -1,4 +1,4 @@
-use Rattle.std.proofs.Common.{◌≡◌, ℕ, ◌+◌, ◌≤◌, List, ◌++◌, length, IfSome, Option, refl, sym, ap, ◌∙◌, subst, arith, rules, true}
+use Rattle.std.proofs.Common.{◌≡◌, ◌+◌, ◌≤◌, List, ◌++◌, length, IfSome, Option, ap, ◌∙◌, subst, arith}
 use Rattle.std.proofs.lemmas.List.{take_at}
 use Rattle.wdt_units.specs.Tree.{File}
 use Rattle.wdt_source.specs.Told.{IsRead, HasSlip, is_within_file}

@@ -1,9 +1,9 @@
-use Rattle.std.proofs.Common.{◌≡◌, ◌∙◌, ◌++◌, List, ℕ, [], ◌∷◌, length, Option, Some, Result, Err, refl, sym, ap, subst, arith}
+use Rattle.std.proofs.Common.{◌≡◌, ◌∙◌, ◌++◌, List, ℕ, [], Err, sym, ap, subst}
 use Rattle.std.proofs.lemmas.List.{append-nil}
 use Rattle.wdt_codec.specs.Frames.{spell}
 use Rattle.wdt_codec.specs.Stream.{Message, IsMessage}
 use Rattle.wdt_cli.specs.declared.receiver.TakeFail.{TakeFail}
-use Rattle.wdt_cli.specs.Received.{Landing, Took, progress, after_frame}
+use Rattle.wdt_cli.specs.Received.{Took, progress, after_frame}
 use Rattle.wdt_cli.proofs.Messages.{took-ok, took-expected, taken}
 use Rattle.wdt_cli.proofs.session.say.Goals as goal
 

@@ -1,6 +1,6 @@
 use Rattle.std.proofs.Common.{◌≡◌, ◌≤◌, length, take, drop, ◌-◌}
 use Rattle.wdt_units.specs.Scan.{scan_after}
-use Rattle.wdt_codec.specs.Frames.{path_at}
+use Rattle.wdt_codec.specs.Paths.{path_at}
 use Rattle.wdt_codec.specs.Reading.{times, with_front}
 use Rattle.wdt_codec.proofs.PathField.{path_bytes}
 use Rattle.wdt_codec.proofs.paths.scan_path.Given as goal
