@@ -14,7 +14,7 @@ use std::rt::Files;
 use std::time::{SystemTime, UNIX_EPOCH};
 use wdt_source::{Source, SourceFail};
 use wdt_tree::RawEntry;
-use wdt_units::Name;
+use wdt_units::{Name, is_reserved};
 
 /// The regular files of a folder and of those below it. Links, sockets, pipes and devices are
 /// skipped, and so are the receiver's own files `.wlog` and `.wlog.new`, at the root alone.
@@ -95,13 +95,18 @@ impl<R: Files + AllocGlobal + Clone + Drop> FolderSource<R> {
             let path = joined(alloc, folder, entry.file_name())?;
             match entry.metadata() {
                 Ok(about) if about.is_dir() => folders.push(path)?,
-                Ok(about) if about.is_file() && !is_own(path.as_str()) => raw.push(RawEntry {
-                    path: path.into_bytes(),
-                    size: about.len(),
-                    stamp: stamp(about.modified()),
-                })?,
+                Ok(about) if about.is_file() && !is_reserved(path.as_bytes()) => raw.push(
+                    RawEntry {
+                        path: path.into_bytes(),
+                        size: about.len(),
+                        stamp: stamp(about.modified()),
+                    },
+                )?,
                 Ok(_) => {}
-                Err(reason) => return Err(Trouble::of("looking at", path, reason)),
+                Err(reason) => {
+                    let full = joined(alloc, self.root.as_str(), path.as_str())?;
+                    return Err(Trouble::of("looking at", full, reason));
+                }
             }
         }
         Ok(())
@@ -203,11 +208,6 @@ fn joined(alloc: Global, folder: &str, name: &str) -> Result<String, AllocError>
         return String::from_str(alloc, folder);
     }
     format!(in alloc; "{folder}/{name}")
-}
-
-// Whether a path below the root is one of the receiver's own files.
-fn is_own(path: &str) -> bool {
-    path == ".wlog" || path == ".wlog.new"
 }
 
 // Nanoseconds since 1970, or 0 where they aren't told.
