@@ -1,6 +1,7 @@
 pub mod Counts
 pub mod Have
 pub mod Inputs
+pub mod LaneWords
 pub mod Memory
 pub mod Path
 pub mod Scan
