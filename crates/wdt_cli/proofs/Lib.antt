@@ -2,6 +2,7 @@ pub mod Complete
 pub mod Counted
 pub mod Follows
 pub mod Fronts
+pub mod Heard
 pub mod Landed
 pub mod Listed
 pub mod Messages

@@ -5,5 +5,6 @@ pub mod Lines
 pub mod Named
 pub mod Numbers
 pub mod Received
+pub mod Replies
 pub mod Sending
 pub mod Words

@@ -22,9 +22,9 @@ pub record Landing : Type 0 where
 
 -- ---- what each message leaves
 
--- settings that it serves: version 1, one lane
+-- settings that it serves: version 1, one lane, and the question what it has
 abbrev pub is_served : Settings → Bool
-is_served s = s.version == 1 && s.lanes == 1
+is_served s = s.version == 1 && s.lanes == 1 && s.ask
 
 -- the file of a block, where it has these bytes
 abbrev pub begun_file : Header → List ℕ → File

@@ -10,6 +10,7 @@ mod help;
 mod reading;
 mod receiver;
 mod rehearse;
+mod replies;
 mod report;
 mod session;
 mod status;

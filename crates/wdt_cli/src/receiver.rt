@@ -2,13 +2,15 @@
 //! together from them.
 ghost use Rattle.std.specs.Prelude.{◌≡◌, ℕ, ◌<◌, ◌≤◌, ◌++◌, List, [], ◌∷◌, length, take, drop, map, option_to_list, OnOk, IsErrOf, IsOkUnless, MatchOption};
 ghost use Rattle.wdt_tree.specs.Shown.{shown};
+ghost use Rattle.wdt_cli.specs.Replies.{said_at};
 ghost use Rattle.wdt_cli.specs.Received.{after_frame, after_block, is_next, is_served, files_left, progress, with_block, Fills, IsFileFor, Steps};
 
 use std::alloc::{AllocError, AllocFailed, Global};
 use thiserror::Error;
-use wdt_codec::{Frame, NextFail, PieceFail, Reader, Settings};
+use wdt_codec::{Frame, Mark, NextFail, PieceFail, Reader, Settings, encode};
+use wdt_ranges::Have;
 use wdt_tree::Plain;
-use wdt_units::{Header, NoMemory, PIECE};
+use wdt_units::{Header, Lane, NoMemory, PIECE};
 
 /// What the receiving half waits for.
 #[derive(Clone, Copy, Debug, PartialEq, Eq)]
@@ -123,6 +125,25 @@ impl Receiver {
         }
     }
 
+    /// Appends what the receiving half says where it has come to its stage: behind the settings a
+    /// greeting and what it has, and its last word behind the sender's.
+    pub fn answer(&self, up: &mut Vec<u8>) -> Result<(), NoMemory>
+        ensures { OnOk result (up.new.items ≡ up.old.items ++ said_at self.now.stage) }
+    {
+        match self.stage {
+            Stage::Size => {
+                let mark = Mark {
+                    lane: Lane(0),
+                    count: 0,
+                };
+                encode(&Frame::Greeting(mark), up)?;
+                encode(&Frame::Chunks(Have::none(self.alloc)), up)
+            }
+            Stage::Bye => encode(&Frame::Done, up),
+            Stage::Settings | Stage::Blocks { .. } | Stage::Over => Ok(()),
+        }
+    }
+
     /// The files that have landed.
     pub fn into_landed(self) -> Result<Vec<Plain>, NoMemory>
         ensures { IfOk result (λ v. map shown v.items ≡ (progress self).landed) }
@@ -186,11 +207,11 @@ impl Receiver {
     }
 }
 
-// Settings that a rehearsal has: version 1, one lane.
+// Settings that a rehearsal has: version 1, one lane, and the question what the receiver has.
 fn is_served(settings: &Settings) -> bool
     ensures { result ≡ is_served settings.now }
 {
-    settings.version == 1 && settings.lanes == 1
+    settings.version == 1 && settings.lanes == 1 && settings.ask
 }
 
 // How many files are still to begin behind a block: one less, where it begins one.

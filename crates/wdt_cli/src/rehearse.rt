@@ -7,20 +7,20 @@ ghost use Rattle.wdt_cli.specs.Causes.{IsCause, IsRefusedFor, RefusesRun};
 ghost use Rattle.wdt_cli.specs.Failures.{refusal_of, unplanned_of, IsPlanFailure};
 
 use crate::report::Report;
-use crate::session::{BLOCK, transfer};
+use crate::session::{BLOCK, greet, transfer};
 use crate::status::RefusedKind;
 use std::alloc::Global;
 use wdt_discover::{PlanFail, plan};
-use wdt_ranges::Have;
 use wdt_source::{Source, SourceFail};
 use wdt_tree::{Manifest, ManifestFail, Plain};
 
-/// The files that landed, what was counted, and the bytes of the wire as `Transferred` has them.
+/// The files that landed, what was counted, and the bytes of both ways as `Transferred` has them.
 #[derive(Debug, Drop)]
 pub struct Rehearsed {
     pub landed: Vec<Plain>,
     pub report: Report,
-    pub wire: Vec<u8>,
+    pub down: Vec<u8>,
+    pub up: Vec<u8>,
 }
 
 /// Why nothing landed.
@@ -66,11 +66,12 @@ pub fn rehearse<S: Source>(alloc: Global, source: &mut S) -> Result<Rehearsed, F
         Ok(manifest) => manifest,
         Err(fail) => return Err(refusal(fail)),
     };
-    let blocks = match plan(alloc, &manifest, &Have::none(alloc), BLOCK) {
+    let begun = greet(alloc)?;
+    let blocks = match plan(alloc, &manifest, &begun.have, BLOCK) {
         Ok(blocks) => blocks,
         Err(fail) => return Err(unplanned(fail)),
     };
-    match transfer(alloc, source, &manifest, &blocks) {
+    match transfer(alloc, source, &manifest, &blocks, begun) {
         Ok(sent) => Ok(Rehearsed {
             landed: sent.landed,
             report: Report {
@@ -78,13 +79,14 @@ pub fn rehearse<S: Source>(alloc: Global, source: &mut S) -> Result<Rehearsed, F
                 blocks: blocks.len() as u64,
                 bytes: manifest.total(),
             },
-            wire: sent.wire,
+            down: sent.down,
+            up: sent.up,
         }),
         Err(fail) => Err(Failure::from(fail)),
     }
 }
 
-// A destination that has nothing has nothing stale.
+// A receiver that has nothing has nothing stale.
 fn unplanned(fail: PlanFail) -> Failure
     requires { IsPlanFailure fail }
     ensures { result ≡ unplanned_of fail }

@@ -1,5 +1,5 @@
-//! A rehearsal's one lane. The sending half spells its messages onto a list of bytes; the receiving
-//! half is given these bytes and nothing else.
+//! A rehearsal's one lane. Each half spells its messages onto a list of bytes, and is given the bytes
+//! of the other half's list and nothing else.
 ghost use Rattle.std.specs.Prelude.{◌≡◌, ◌≤◌, ◌+◌, ◌^◌, min, true, false, List, ℕ, [], length, map, sum_by, IfOk, IfSome, OnOk, IsOkUnless, IsSome, IsTrue};
 ghost use Rattle.wdt_units.specs.Tree.{file_of};
 ghost use Rattle.wdt_tree.specs.Cuts.{blocks_in, cuts};
@@ -10,13 +10,16 @@ ghost use Rattle.wdt_codec.specs.Frames.{Fits, owed_by};
 ghost use Rattle.wdt_codec.specs.declared.frames.Frame.TheVariants as frames;
 ghost use Rattle.wdt_cli.specs.Landing.{HasSize};
 ghost use Rattle.wdt_cli.specs.Received.{progress, nothing_held, after_frame};
+ghost use Rattle.wdt_cli.specs.Replies.{IsBegun};
 ghost use Rattle.wdt_cli.specs.Sending.{Sends, AreBlocks, LandsFile, LandsAll, HasRoom, header_at};
 ghost use Rattle.wdt_cli.specs.declared.receiver.Stage.TheVariants as stages;
 
 use crate::reading::read_block;
 use crate::receiver::{Receiver, TakeFail};
+use crate::replies::{read_done, read_greeting};
 use std::alloc::Global;
 use wdt_codec::{Frame, Settings, encode};
+use wdt_ranges::Have;
 use wdt_source::{Source, SourceFail};
 use wdt_tree::{Entry, Manifest, Plain};
 use wdt_units::{Block, Conn, Header, Lane, MAX_BLOCK, MAX_FILE_SIZE, Name};
@@ -27,13 +30,50 @@ pub const BLOCK: u32 = 16_777_216;
 /// The list of bytes is cleared once it holds this many.
 const KEEP: usize = 16_777_216;
 
+/// A session that has begun: the receiving half has taken the settings, and has told what it has.
+#[derive(Drop)]
+pub struct Greeted {
+    pub receiver: Receiver,
+    /// The bytes towards the receiving half.
+    pub down: Vec<u8>,
+    /// The bytes towards the sending half.
+    pub up: Vec<u8>,
+    /// What the receiving half has.
+    pub have: Have,
+}
+
 /// What a transfer leaves.
 #[derive(Drop)]
 pub struct Transferred {
     /// The files that landed.
     pub landed: Vec<Plain>,
-    /// The bytes of the wire, from where the list was cleared last: all of them on a small tree.
-    pub wire: Vec<u8>,
+    /// The bytes towards the receiving half, from where the list was cleared last: all of them on a
+    /// small tree.
+    pub down: Vec<u8>,
+    /// The bytes towards the sending half.
+    pub up: Vec<u8>,
+}
+
+/// Begins a session: the sending half asks the receiving half what it has.
+pub fn greet(alloc: Global) -> Result<Greeted, SourceFail>
+    ensures begun { IfOk result IsBegun }
+    ensures fail { IsOkUnless result SourceFail.NoMemory }
+{
+    let mut receiver = Receiver::new(alloc);
+    let mut down = Vec::new(alloc);
+    say(&settings(), &mut down, &mut receiver)?;
+    let mut up = Vec::new(alloc);
+    receiver.answer(&mut up)?;
+    match read_greeting(alloc, &up) {
+        Ok(have) => Ok(Greeted {
+            receiver,
+            down,
+            up,
+            have,
+        }),
+        Err(TakeFail::NoMemory) => Err(SourceFail::NoMemory),
+        Err(TakeFail::Unexpected) => unreachable!(),
+    }
 }
 
 /// Sends the blocks of a manifest's tree over one lane, and gives what landed.
@@ -42,32 +82,52 @@ pub fn transfer<S: Source>(
     source: &mut S,
     manifest: &Manifest,
     blocks: &[Block],
+    begun: Greeted,
 ) -> Result<Transferred, SourceFail>
     requires told { IfSome (S.told source.old) (λ files. manifest.now ≡ map entry_of_file files) }
     requires blocks { blocks.now ≡ cuts BLOCK manifest.now }
+    requires begun { IsBegun begun }
     ensures entries { IfOk result (λ run. map entry_of_file (map shown run.landed.items) ≡ manifest.now) }
     ensures tree { IfOk result (λ run. IfSome (S.told source.old) (λ files. map shown run.landed.items ≡ files)) }
     ensures cause { HasFault result (S.faults source.old) (S.faults source.new) }
     ensures slips { IfSome (S.told source.old) (λ files. S.slips source.new ≡ S.slips source.old) }
 {
-    let mut receiver = Receiver::new(alloc);
-    let mut wire = Vec::new(alloc);
-    say(&settings(), &mut wire, &mut receiver)?;
+    let Greeted {
+        mut receiver,
+        mut down,
+        mut up,
+        ..
+    } = begun;
     let size = Frame::Size {
         files: manifest.count(),
         bytes: manifest.total(),
     };
-    say(&size, &mut wire, &mut receiver)?;
-    send_files(alloc, source, manifest, blocks, &mut wire, &mut receiver)?;
-    say(&Frame::Done, &mut wire, &mut receiver)?;
-    say(&Frame::Done, &mut wire, &mut receiver)?;
+    say(&size, &mut down, &mut receiver)?;
+    send_files(alloc, source, manifest, blocks, &mut down, &mut receiver)?;
+    say(&Frame::Done, &mut down, &mut receiver)?;
+    hear_done(alloc, &mut up, &receiver)?;
+    say(&Frame::Done, &mut down, &mut receiver)?;
     let landed = receiver.into_landed()?;
-    Ok(Transferred { landed, wire })
+    Ok(Transferred { landed, down, up })
 }
 
-// The sender's first frame: session 1, connection 1 of lane 0 of 1. It asks for nothing.
+// Hears the receiving half's last word, once it has taken the sender's.
+fn hear_done(alloc: Global, up: &mut Vec<u8>, receiver: &Receiver) -> Result<(), SourceFail>
+    requires { (progress receiver.now).stage ≡ stages.Bye }
+    ensures { IsOkUnless result SourceFail.NoMemory }
+{
+    let start = up.len();
+    receiver.answer(up)?;
+    match read_done(alloc, &up[start..]) {
+        Ok(()) => Ok(()),
+        Err(TakeFail::NoMemory) => Err(SourceFail::NoMemory),
+        Err(TakeFail::Unexpected) => unreachable!(),
+    }
+}
+
+// The sender's first frame: session 1, connection 1 of lane 0 of 1. It asks what the receiver has.
 fn settings() -> Frame
-    ensures { result ≡ frames.Settings (record { version = 1; session = 1; lane = record { 0 = 0 }; lanes = 1; conn = record { 0 = 1 }; block = BLOCK; ask = false }) }
+    ensures { result ≡ frames.Settings (record { version = 1; session = 1; lane = record { 0 = 0 }; lanes = 1; conn = record { 0 = 1 }; block = BLOCK; ask = true }) }
 {
     Frame::Settings(Settings {
         version: 1,
@@ -76,7 +136,7 @@ fn settings() -> Frame
         lanes: 1,
         conn: Conn(1),
         block: BLOCK,
-        ask: false,
+        ask: true,
     })
 }
 

@@ -232,27 +232,29 @@ fn more_blocks_than_a_session_has_are_refused(rt: HostRuntime) -> Result<(), Fai
     Ok(())
 }
 
-// Settings of version 1, session 1, lane 0 of 1, connection 1, blocks of 16,777,216 bytes; then the
-// size, each block behind its header, and two times the last word.
+// Down: settings of version 1, session 1, lane 0 of 1, connection 1, blocks of 16,777,216 bytes, which
+// ask; then the size, each block behind its header, and two times the last word. Up: the greeting of
+// lane 0, that there is nothing, and the last word.
 #[test]
-fn the_wire_has_settings_size_blocks_and_done_twice(rt: HostRuntime) -> Result<(), Fail> {
-    let wires: [(&[&[u8]], &[u8]); 2] = [
+fn both_ways_have_their_frames(rt: HostRuntime) -> Result<(), Fail> {
+    let trees: [(&[&[u8]], &[u8]); 2] = [
         (
             &[],
-            b"\x53\0\x01\0\0\0\0\0\0\0\x01\0\x01\0\x01\x01\0\0\0\0\
+            b"\x53\0\x01\0\0\0\0\0\0\0\x01\0\x01\0\x01\x01\0\0\0\x01\
             \x5a\0\0\0\0\0\0\0\0\0\0\0\0\x4c\x4c",
         ),
         (
             &[b"a"],
-            b"\x53\0\x01\0\0\0\0\0\0\0\x01\0\x01\0\x01\x01\0\0\0\0\
+            b"\x53\0\x01\0\0\0\0\0\0\0\x01\0\x01\0\x01\x01\0\0\0\x01\
             \x5a\0\0\0\x01\0\0\0\0\0\0\0\x02\
             \x44\0\x01a\0\0\0\0\0\0\0\x02\0\0\0\0\0\0\0\0\0\0\0\0\0\0\0\0\0\0\0\x02hi\x4c\x4c",
         ),
     ];
-    for (paths, wire) in wires {
+    for (paths, down) in trees {
         let mut source = paths_of(rt.alloc(), paths, b"hi")?;
         let sent = rehearse::rehearse(rt.alloc(), &mut source)?;
-        assert_eq!(rt; sent.wire.as_slice(), wire);
+        assert_eq!(rt; sent.down.as_slice(), down);
+        assert_eq!(rt; sent.up.as_slice(), b"\x47\0\0\0\0\0\x43\0\0\0\0\x4c".as_slice());
         assert_eq!(rt; sent.landed.len(), paths.len());
     }
     Ok(())

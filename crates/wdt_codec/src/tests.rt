@@ -70,8 +70,11 @@ fn read_back(rt: &impl Abort, alloc: Global, bytes: &[u8]) {
 }
 
 // Bytes, and the place of the bad one.
-const BAD: [(&[u8], u32); 30] = [
+const BAD: [(&[u8], u32); 42] = [
     (b"\x58", 0),
+    // Lane 16, and 17 lanes.
+    (b"\x53\x00\x01\x00\x00\x00\x00\x00\x00\x00\x01\x10", 11),
+    (b"\x53\x00\x01\x00\x00\x00\x00\x00\x00\x00\x01\x00\x11", 12),
     // Lane 3 of 3 lanes.
     (b"\x53\x00\x01\x00\x00\x00\x00\x00\x00\x00\x01\x03\x03", 12),
     // Asked twice.
@@ -89,6 +92,30 @@ const BAD: [(&[u8], u32); 30] = [
         b"\x44\x00\x01a\x00\x00\x00\x00\x00\x00\x00\x01\x00\x00\x00\x00\x00\x00\x00\x00\x00\x00\x00\x00\x00\x00\x00\x01",
         27,
     ),
+    // A byte of an empty file, and none of a file that has some.
+    (
+        b"\x44\x00\x01a\x00\x00\x00\x00\x00\x00\x00\x00\x00\x00\x00\x00\x00\x00\x00\x00\x00\x00\x00\x00\x00\x00\x00\x01",
+        27,
+    ),
+    (
+        b"\x44\x00\x01a\x00\x00\x00\x00\x00\x00\x00\x00\x00\x00\x00\x00\x00\x00\x00\x00\x00\x00\x00\x00\x00\x00\x00\x00\x00\x00\x00\x01",
+        31,
+    ),
+    (
+        b"\x44\x00\x01a\x00\x00\x00\x00\x00\x00\x00\x01\x00\x00\x00\x00\x00\x00\x00\x00\x00\x00\x00\x00\x00\x00\x00\x00\x00\x00\x00\x00",
+        31,
+    ),
+    // A byte past the file's end, and one more than 64 MiB.
+    (
+        b"\x44\x00\x01a\x00\x00\x00\x00\x00\x00\x00\x03\x00\x00\x00\x00\x00\x00\x00\x00\x00\x00\x00\x00\x00\x00\x00\x01\x00\x00\x00\x03",
+        31,
+    ),
+    (
+        b"\x44\x00\x01a\x00\x00\x01\x00\x00\x00\x00\x00\x00\x00\x00\x00\x00\x00\x00\x00\x00\x00\x00\x00\x00\x00\x00\x00\x04\x00\x00\x01",
+        31,
+    ),
+    // A path of 1,025 bytes.
+    (b"\x44\x04\x01", 2),
     // A count of 2^20 + 1.
     (b"\x47\x00\x00\x10\x00\x01", 5),
     // No connection.
@@ -113,6 +140,9 @@ const BAD: [(&[u8], u32); 30] = [
     // No mark, and 16.
     (b"\x45\x00", 1),
     (b"\x45\x10", 1),
+    // Lane 16, and a count of 2^20 + 1.
+    (b"\x45\x01\x10", 2),
+    (b"\x45\x01\x00\x00\x10\x00\x01", 6),
     // A lane twice, and one that leaves no room for the next.
     (b"\x45\x02\x01\x00\x00\x00\x00\x01\x00\x00\x00\x00", 7),
     (b"\x45\x02\x0F", 2),
@@ -121,6 +151,15 @@ const BAD: [(&[u8], u32); 30] = [
     // An empty path, and one of 1,025 bytes.
     (b"\x43\x00\x00\x00\x01\x00\x00", 6),
     (b"\x43\x00\x00\x00\x01\x04\x01", 6),
+    // A file of 2^40 + 1 bytes, and one with 1,310,721 spans.
+    (
+        b"\x43\x00\x00\x00\x01\x00\x01a\x00\x00\x01\x00\x00\x00\x00\x01",
+        15,
+    ),
+    (
+        b"\x43\x00\x00\x00\x01\x00\x01a\x00\x00\x01\x00\x00\x00\x00\x00\x00\x00\x00\x00\x00\x00\x00\x00\x00\x14\x00\x01",
+        27,
+    ),
     // More spans than fit.
     (
         b"\x43\x00\x00\x00\x01\x00\x01a\x00\x00\x00\x00\x00\x00\x00\x01\x00\x00\x00\x00\x00\x00\x00\x00\x00\x00\x00\x02",
@@ -161,6 +200,57 @@ fn bad_places(rt: HostRuntime) {
         match read_frame(rt.alloc(), bytes) {
             Err(NextFail::Bad { at }) => assert_eq!(rt; at, place),
             _ => panic!(rt; "not bad at {place}"),
+        }
+    }
+}
+
+// The length of a path, its bytes up to the bad one, and the place of the bad one in the path.
+const BAD_PATHS: [(u8, &[u8], u32); 24] = [
+    // Parts that are empty, `.` or `..`, and the byte 0.
+    (9, b"/", 0),
+    (9, b"a//", 2),
+    (2, b"a/", 1),
+    (9, b"./", 1),
+    (3, b"a/.", 2),
+    (9, b"../", 2),
+    (9, b"a/./", 3),
+    (4, b"a/..", 3),
+    (9, b"a\x00", 1),
+    // No UTF-8: a byte that begins no character,
+    (9, b"\x80", 0),
+    (9, b"\xC0", 0),
+    (9, b"\xC1", 0),
+    (9, b"\xF5", 0),
+    (9, b"\xFF", 0),
+    // a character that has a shorter form, a half of a pair, one above the greatest,
+    (9, b"\xE0\x9F", 1),
+    (9, b"\xF0\x8F", 1),
+    (9, b"\xED\xA0", 1),
+    (9, b"\xF4\x90", 1),
+    // one that breaks off, and one for which the path has no room.
+    (9, b"\xC3a", 1),
+    (9, b"\xE2\x82a", 2),
+    (9, b"\xF0\x9F\x98a", 3),
+    (1, b"\xC3", 0),
+    (3, b"a\xE2", 1),
+    (3, b"\xF0", 0),
+];
+
+#[test]
+fn bad_places_in_paths(rt: HostRuntime) {
+    for (count, path, place) in BAD_PATHS {
+        let fronts: [&[u8]; 2] = [b"\x44\x00", b"\x43\x00\x00\x00\x01\x00"];
+        for front in fronts {
+            let mut bytes = Vec::new(rt.alloc());
+            bytes.extend_from_slice(front).expect(&rt, "memory");
+            bytes.push(count).expect(&rt, "memory");
+            bytes.extend_from_slice(path).expect(&rt, "memory");
+            match read_frame(rt.alloc(), &bytes) {
+                Err(NextFail::Bad { at }) => {
+                    assert_eq!(rt; at as usize, front.len() + 1 + place as usize)
+                }
+                _ => panic!(rt; "not bad at {place}"),
+            }
         }
     }
 }
@@ -213,4 +303,30 @@ fn take_all(rt: &impl Abort, reader: &mut Reader, text: &mut Vec<u8>) {
             }
         }
     }
+}
+
+// A file of 2^40 bytes of which nothing has come.
+const FILE: &[u8] =
+    b"\x00\x01a\x00\x00\x01\x00\x00\x00\x00\x00\x00\x00\x00\x00\x00\x00\x00\x00\x00\x00\x00\x00";
+
+#[test]
+fn the_longest_list_of_files_comes_in_small_pieces(rt: HostRuntime) {
+    let mut text = Vec::new(rt.alloc());
+    text.extend_from_slice(b"\x43\x00\x04\x00\x00").expect(&rt, "memory");
+    for _ in 0..262_144 {
+        text.extend_from_slice(FILE).expect(&rt, "memory");
+    }
+    let mut reader = Reader::new(rt.alloc());
+    let mut files = 0;
+    for piece in text.chunks(256) {
+        reader.feed(piece).expect(&rt, "memory");
+        if reader.owed() == 0 {
+            match reader.next() {
+                Ok(Frame::Chunks(have)) => files = have.files().len(),
+                Err(NextFail::NotYet) => {}
+                _ => panic!(rt; "no list"),
+            }
+        }
+    }
+    assert_eq!(rt; files, 262_144);
 }

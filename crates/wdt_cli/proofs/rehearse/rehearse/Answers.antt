@@ -15,7 +15,7 @@ use Rattle.wdt_cli.proofs.rehearse.rehearse.Goals as goal
 
 pub unplanned-requires : goal.unplanned-requires
 unplanned-requires g c =
-    let refused = subst (λ (have : List HaveFile). (c.in-Err-plan.fail ≡ plans.NoMemory → ⊥) → refusal c.in-Ok-check.manifest have 16777216 ≡ Some c.in-Err-plan.fail) c.none.ensures c.in-Err-plan.ensures.refused in
+    let refused = subst (λ (have : List HaveFile). (c.in-Err-plan.fail ≡ plans.NoMemory → ⊥) → refusal c.in-Ok-check.manifest have 16777216 ≡ Some c.in-Err-plan.fail) c.in_ok-begun.ensures.begun.nothing c.in-Err-plan.ensures.refused in
     plan-failure c.in-Ok-check.manifest c.in-Err-plan.fail refused
 
 pub transfer-requires-clause-told : goal.transfer-requires-clause-told
@@ -25,23 +25,23 @@ transfer-requires-clause-told g c =
 
 pub transfer-requires-clause-blocks : goal.transfer-requires-clause-blocks
 transfer-requires-clause-blocks g c =
-    let rest = subst (λ (have : List HaveFile). IsRest c.in-Ok-check.manifest have 16777216 c.in-Ok-plan.blocks.items) c.none.ensures c.in-Ok-plan.ensures.rest in
+    let rest = subst (λ (have : List HaveFile). IsRest c.in-Ok-check.manifest have 16777216 c.in-Ok-plan.blocks.items) c.in_ok-begun.ensures.begun.nothing c.in-Ok-plan.ensures.rest in
     c.deref.ensures.value ∙ planned-cuts c.in-Ok-check.manifest c.in-Ok-plan.blocks.items rest
 
 pub returns-in-Err-plan-clause-cause : goal.returns-in-Err-plan-clause-cause
 returns-in-Err-plan-clause-cause g c =
-    let refused = subst (λ (have : List HaveFile). (c.in-Err-plan.fail ≡ plans.NoMemory → ⊥) → refusal c.in-Ok-check.manifest have 16777216 ≡ Some c.in-Err-plan.fail) c.none.ensures c.in-Err-plan.ensures.refused in
+    let refused = subst (λ (have : List HaveFile). (c.in-Err-plan.fail ≡ plans.NoMemory → ⊥) → refusal c.in-Ok-check.manifest have 16777216 ≡ Some c.in-Err-plan.fail) c.in_ok-begun.ensures.begun.nothing c.in-Err-plan.ensures.refused in
     subst (λ failure. IsCause (g.S.Source.listing c.args.source.now) (g.S.Source.faults c.args.source.now) (g.S.Source.faults c.list.new.self) failure) (sym c.unplanned.ensures)
     (plan-cause (g.S.Source.listing c.args.source.now) (map entry_of c.in-Ok.raw.items) c.in-Ok-check.manifest (g.S.Source.faults c.args.source.now) (g.S.Source.faults c.list.new.self) c.in-Err-plan.fail c.in-Ok.ensures.listed c.in-Ok-check.ensures.accepted c.in-Ok-check.ensures.entries refused)
 
 pub returns-in-Err-plan-clause-refuses : goal.returns-in-Err-plan-clause-refuses
 returns-in-Err-plan-clause-refuses g c =
-    let refused = subst (λ (have : List HaveFile). (c.in-Err-plan.fail ≡ plans.NoMemory → ⊥) → refusal c.in-Ok-check.manifest have 16777216 ≡ Some c.in-Err-plan.fail) c.none.ensures c.in-Err-plan.ensures.refused in
+    let refused = subst (λ (have : List HaveFile). (c.in-Err-plan.fail ≡ plans.NoMemory → ⊥) → refusal c.in-Ok-check.manifest have 16777216 ≡ Some c.in-Err-plan.fail) c.in_ok-begun.ensures.begun.nothing c.in-Err-plan.ensures.refused in
     subst (λ failure. IsToldRun {A = Rehearsed} (g.S.Source.listing c.args.source.now) (g.S.Source.faults c.args.source.now) (g.S.Source.faults c.list.new.self) (Err failure)) (sym c.unplanned.ensures)
     (plan-refused Rehearsed (List Entry) c.in-Ok-check.manifest (g.S.Source.listing c.args.source.now) (map entry_of c.in-Ok.raw.items) c.in-Ok-check.manifest (g.S.Source.faults c.args.source.now) (g.S.Source.faults c.list.new.self) c.in-Err-plan.fail c.in-Ok.ensures.listed c.in-Ok-check.ensures.refuses c.in-Ok-check.ensures.entries refused)
 
 pub returns-in-Ok-transfer-clause-refuses : goal.returns-in-Ok-transfer-clause-refuses
 returns-in-Ok-transfer-clause-refuses g c =
-    let rest = subst (λ (have : List HaveFile). IsRest c.in-Ok-check.manifest have 16777216 c.in-Ok-plan.blocks.items) c.none.ensures c.in-Ok-plan.ensures.rest in
+    let rest = subst (λ (have : List HaveFile). IsRest c.in-Ok-check.manifest have 16777216 c.in-Ok-plan.blocks.items) c.in_ok-begun.ensures.begun.nothing c.in-Ok-plan.ensures.rest in
     none-refused Rehearsed (List Entry) c.in-Ok-check.manifest (g.S.Source.listing c.args.source.now) (map entry_of c.in-Ok.raw.items) c.in-Ok-check.manifest c.in-Ok-plan.blocks.items (g.S.Source.faults c.args.source.now) (g.S.Source.faults c.transfer.new.source)
-    (Ok (record { landed = c.in-Ok-transfer.sent.landed; report = record { files = c.count.result; blocks = c.len.result; bytes = c.total.result }; wire = c.in-Ok-transfer.sent.wire })) c.in-Ok.ensures.listed c.in-Ok-check.ensures.refuses c.in-Ok-check.ensures.entries rest c.in-Ok-plan.ensures.few
+    (Ok (record { landed = c.in-Ok-transfer.sent.landed; report = record { files = c.count.result; blocks = c.len.result; bytes = c.total.result }; down = c.in-Ok-transfer.sent.down; up = c.in-Ok-transfer.sent.up })) c.in-Ok.ensures.listed c.in-Ok-check.ensures.refuses c.in-Ok-check.ensures.entries rest c.in-Ok-plan.ensures.few
