@@ -64,7 +64,7 @@ impl Marks {
     }
 }
 
-/// The marks of an Err.
+/// The marks of an ErrMarks.
 #[tactic(auto, unfolding(crate::specs::Frames::marks_at))]
 pub fn read_marks(bytes: &[u8]) -> Result<(Marks, &[u8]), Stop>
     ensures { Answers (λ x. (x.0, x.1.now)) result (marks_at bytes.now) }
