@@ -1,0 +1,27 @@
+//! What a sender's lanes do: the states, the inputs, the acts and the table that joins them.
+//!
+//! A lane holds an input, hands it to its end, and gets an act to perform; what it answers is the next
+//! input. `row` says which row of the table fits a state and an input, `allowed` whether the input
+//! belongs to the state at all. The rest of a step is a definition: `specs/Turn` gives for each plain
+//! sender, lane and input the one act and the one plain sender behind it. What a step notes is an entry
+//! of the sender's history, and the history tells nearly all that a plain sender is: what each lane has
+//! claimed, what has surely landed, what still waits (`specs/SenderHistory`, `specs/Places`).
+//! `specs/Legal` says which entries may follow which, and `specs/Phases` what the two ends of a
+//! connection say to each other in turn. An end's answer and its kinds stand here for both ends.
+#![tactic(auto)]
+
+mod acts;
+mod answers;
+mod events;
+mod inputs;
+mod peers;
+mod rows;
+mod states;
+
+pub use acts::SendAct;
+pub use answers::{EndAnswer, RefusedKind};
+pub use events::SendEvent;
+pub use inputs::SendIn;
+pub use peers::PeerKind;
+pub use rows::{SendRow, allowed, row};
+pub use states::{SendLane, SendState};
