@@ -1,0 +1,87 @@
+-- What a destination has, as it is told: its order, how it differs from what was told before, and
+-- why the tree isn't sent to it.
+use Rattle.std.specs.Prelude.{ℕ, ◌+◌, ◌==◌, ◌&&◌, not, nat_lt, Bool, true, false, if◌then◌else◌, List, [], ◌∷◌, length, Option, Some, None, find}
+use Rattle.std.specs.Option.{option_map}
+use Rattle.std.specs.Str.{bytes_eq}
+use Rattle.wdt_units.specs.Have.{PlainSpan, HaveFile}
+use Rattle.wdt_units.specs.Tree.{is_before}
+use Rattle.wdt_tree.specs.declared.entry.Entry.{Entry}
+use Rattle.wdt_tree.specs.Listing.{has_path}
+use Rattle.wdt_rest.specs.RestOf.{rest_of}
+use Rattle.wdt_sender_fsm.specs.declared.answers.RefusedKind.{RefusedKind}
+use Rattle.wdt_sender_fsm.specs.declared.answers.RefusedKind.TheVariants.{Stale, TooManyBlocks}
+
+-- ---- its order
+
+-- the least place from here on whose path doesn't come behind the one before it
+abbrev pub unordered_from : ℕ → List ℕ → List HaveFile → Option ℕ
+unordered_from at before [] = None
+unordered_from at before (file ∷ files) = if is_before before file.path then unordered_from (at + 1) file.path files else Some at
+
+-- the least place, counted from 0, whose path doesn't come behind the one before it
+abbrev pub unordered_at : List HaveFile → Option ℕ
+unordered_at [] = None
+unordered_at (file ∷ files) = unordered_from 1 file.path files
+
+-- ---- how it differs
+
+abbrev pub is_same_span : PlainSpan → PlainSpan → Bool
+is_same_span a b = a.offset == b.offset && a.count == b.count
+
+abbrev pub are_same_spans : List PlainSpan → List PlainSpan → Bool
+are_same_spans [] [] = true
+are_same_spans (a ∷ xs) (b ∷ ys) = is_same_span a b && are_same_spans xs ys
+are_same_spans _ _ = false
+
+abbrev pub is_same_file : HaveFile → HaveFile → Bool
+is_same_file a b = bytes_eq a.path b.path && a.size == b.size && a.stamp == b.stamp && are_same_spans a.spans b.spans
+
+-- the least place from here on at which two lists differ: a missing file is a difference
+abbrev pub different_from : ℕ → List HaveFile → List HaveFile → Option ℕ
+different_from at [] [] = None
+different_from at (a ∷ xs) (b ∷ ys) = if is_same_file a b then different_from (at + 1) xs ys else Some at
+different_from at _ _ = Some at
+
+-- the least place, counted from 0, at which two lists differ
+abbrev pub different_at : List HaveFile → List HaveFile → Option ℕ
+different_at first later = different_from 0 first later
+
+-- ---- why the tree isn't sent
+
+-- the size and the stamp of a file of the tree
+abbrev pub size_and_stamp : Entry → ℕ × ℕ
+size_and_stamp entry = (entry.size, entry.stamp)
+
+-- those of the tree's file of a path, where it has one
+abbrev pub found_in : List Entry → List ℕ → Option (ℕ × ℕ)
+found_in entries path = option_map size_and_stamp (find (has_path path) entries)
+
+-- a named file has the size and the stamp that were found
+abbrev pub has_found : Option (ℕ × ℕ) → HaveFile → Bool
+has_found None file = false
+has_found (Some found) file = found.0 == file.size && found.1 == file.stamp
+
+-- a named file is one of the tree
+abbrev pub fits : List Entry → HaveFile → Bool
+fits entries file = has_found (found_in entries file.path) file
+
+-- what is said of a file that isn't
+abbrev pub stale_of : List Entry → HaveFile → RefusedKind
+stale_of entries file = Stale file.path (file.size, file.stamp) (found_in entries file.path)
+
+-- the first file that isn't one of the tree, which is the one of the least path where the paths rise
+abbrev pub first_stale : List Entry → List HaveFile → Option RefusedKind
+first_stale entries have = option_map (stale_of entries) (find (λ file. not (fits entries file)) have)
+
+-- more than 1,048,576 blocks are too many
+abbrev pub too_many : ℕ → Option RefusedKind
+too_many count = if nat_lt 1048576 count then Some (TooManyBlocks count) else None
+
+-- the one thing for which the tree isn't sent, if any: a file that isn't one of the tree, else too many
+-- blocks
+abbrev pub refusal_after : List Entry → List HaveFile → ℕ → Option RefusedKind → Option RefusedKind
+refusal_after entries have most (Some stale) = Some stale
+refusal_after entries have most None = too_many (length (rest_of entries have most))
+
+abbrev pub refusal : List Entry → List HaveFile → ℕ → Option RefusedKind
+refusal entries have most = refusal_after entries have most (first_stale entries have)
