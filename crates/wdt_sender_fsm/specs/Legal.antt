@@ -1,0 +1,140 @@
+-- Which entries may follow a history, and which histories are legal.
+use Rattle.std.specs.Prelude.{◌≡◌, ◌≢◌, ◌⊎◌, ℕ, ◌+◌, ◌<◌, ◌≤◌, not, Bool, true, false, List, [], ◌∷◌, ◌++◌, length, Option, Some, None, ◌==◌}
+use Rattle.std.proofs.Common.{subst, sym, append_assoc, append-nil}
+use Rattle.wdt_units.specs.LaneWords.{Claims}
+use Rattle.wdt_units.specs.declared.blocks.Block.{Block}
+use Rattle.wdt_codec.specs.declared.frames.Frame.{Frame}
+use Rattle.wdt_sender_fsm.specs.declared.events.SendEvent.{SendEvent}
+use Rattle.wdt_sender_fsm.specs.declared.events.SendEvent.TheVariants.{Linked, NoLink, Lost, Greet, Chunks, Claim, Sent, Done, Global, Finish, Acked, Quit, Abort, Peer}
+use Rattle.wdt_sender_fsm.specs.declared.peers.PeerKind.{PeerKind}
+use Rattle.wdt_sender_fsm.specs.declared.peers.PeerKind.TheVariants as peers
+use Rattle.wdt_sender_fsm.specs.declared.states.SendState.{SendState}
+use Rattle.wdt_sender_fsm.specs.declared.states.SendState.TheVariants as states
+use Rattle.wdt_sender_fsm.specs.Faults.{has_no_row}
+use Rattle.wdt_sender_fsm.specs.Places.{claims_of, holding, least_of, queued, unfinished}
+use Rattle.wdt_sender_fsm.specs.Rows.{place_of, command_of}
+use Rattle.wdt_sender_fsm.specs.SenderHistory.{LanePast, past_of, end_of, lane_of}
+
+-- ---- whose turn it may be
+
+-- an entry of a lane may stand: the lane is one of n and isn't closed, given up or acknowledged, the end
+-- met no fault, and the lane has a connection or, for some entries, has none
+pub record MaySpeak (n : ℕ) (h : List SendEvent) (l : ℕ) (is_up : Bool) : Type 0 where
+  pub within : l < n
+  pub is_open : (past_of h l).claims.closed ≡ None
+  pub quit : (past_of h l).has_quit ≡ false
+  pub acked : (past_of h l).is_acked ≡ false
+  pub fault : (end_of h).has_fault ≡ false
+  pub link : (past_of h l).is_up ≡ is_up
+
+-- an entry stands where its lane has a connection, but for those that make one or do without
+abbrev pub needs_link : SendEvent → Bool
+needs_link (Linked l c) = false
+needs_link (NoLink l) = false
+needs_link (Quit l) = false
+needs_link _ = true
+
+-- ---- counts
+
+-- at least what has surely landed, and at most what was claimed
+abbrev pub IsWithin : Claims → ℕ → Type 0
+IsWithin s n = (s.sure ≤ n) × (n ≤ length s.kept)
+
+-- a lane's count: where it is closed, the one that closed it
+abbrev pub TellsBy : Option ℕ → Claims → ℕ → Type 0
+TellsBy None s n = IsWithin s n
+TellsBy (Some before) s n = n ≡ before
+
+abbrev pub Tells : Claims → ℕ → Type 0
+Tells s n = TellsBy s.closed s n
+
+-- ---- what the receiver may not say
+
+-- the lane reads, and where it waits for a count none has been told
+abbrev pub reads_in : SendState → Bool → Bool
+reads_in states.ReadLocalCheckpoint is_greeted = not is_greeted
+reads_in states.ReadFileChunks is_greeted = is_greeted
+reads_in states.ReadReceiverCmd is_greeted = is_greeted
+reads_in _ is_greeted = false
+
+-- a frame that has no row where the lane stands
+pub record IsUnexpected (n : ℕ) (h : List SendEvent) (l state command : ℕ) : Type 0 where
+  pub at : SendState
+  pub frame : Frame
+  pub reads : reads_in at (past_of h l).is_greeted ≡ true
+  pub place : state ≡ place_of at
+  pub byte : command ≡ command_of frame
+  pub no_row : has_no_row n l (end_of h).is_listed at frame ≡ true
+
+-- a count of a lane that isn't closed, below what has surely landed or above what was claimed
+pub record IsBadCount (n : ℕ) (h : List SendEvent) (count low high : ℕ) : Type 0 where
+  pub of : ℕ
+  pub within : of < n
+  pub is_open : (past_of h of).claims.closed ≡ None
+  pub surely : low ≡ (past_of h of).claims.sure
+  pub claimed : high ≡ length (past_of h of).claims.kept
+  pub out : (count < low) ⊎ (high < count)
+
+-- a closed lane's count that isn't the one that closed it
+pub record IsOtherCount (n : ℕ) (h : List SendEvent) (l count before : ℕ) : Type 0 where
+  pub of : ℕ
+  pub within : of < n
+  pub other : of ≢ l
+  pub closed : (past_of h of).claims.closed ≡ Some before
+  pub out : count ≢ before
+
+-- what a sender may say that the receiver did wrong
+abbrev pub IsFault : ℕ → List Block → List SendEvent → ℕ → PeerKind → Type 0
+IsFault n planned h l (peers.BadFrame at) = Unit {0}
+IsFault n planned h l (peers.Unexpected state command) = IsUnexpected n h l state command
+IsFault n planned h l (peers.BadCheckpoint count low high) = IsBadCount n h count low high
+IsFault n planned h l (peers.Differs count before) = IsOtherCount n h l count before
+IsFault n planned h l (peers.BadChunks at) = ((past_of h l).is_greeted ≡ true) × (1 ≤ at)
+IsFault n planned h l (peers.ChunksDiffer at) = ((past_of h l).is_greeted ≡ true) × ((end_of h).is_listed ≡ true)
+IsFault n planned h l (peers.EarlyDone count) = ((end_of h).is_listed ≡ true) × (count ≡ unfinished n planned h) × (1 ≤ count)
+IsFault n planned h l _ = ⊥
+
+-- ---- each entry
+
+-- what else must hold, where of n lanes the blocks that were planned are to be sent
+abbrev pub Fits : ℕ → List Block → List SendEvent → SendEvent → Type 0
+Fits n planned h (Linked l c) = (c.0 ≡ (past_of h l.0).connections + 1) × (c.0 ≤ 8)
+Fits n planned h (NoLink l) = (past_of h l.0).failed_tries < 8
+Fits n planned h (Lost l) = Unit {0}
+Fits n planned h (Greet l count) = IsWithin (past_of h l.0).claims count
+Fits n planned h (Chunks l) = (past_of h l.0).is_greeted ≡ true
+Fits n planned h (Claim l b) = ((end_of h).is_listed ≡ true) × (least_of (queued n planned h) ≡ Some b) × ((past_of h l.0).claims.held ≡ false)
+Fits n planned h (Sent l) = (past_of h l.0).claims.held ≡ true
+Fits n planned h (Done l) = (past_of h l.0).claims.held ≡ false
+Fits n planned h (Global k l count) = (k.0 ≢ l.0) × (l.0 < n) × Tells (past_of h l.0).claims count
+Fits n planned h (Finish l) = ((end_of h).is_listed ≡ true) × (queued n planned h ≡ []) × (holding (claims_of n h) ≡ 0)
+Fits n planned h (Acked l) = ((end_of h).has_finish ≡ true) × ((past_of h l.0).has_finish ≡ true)
+Fits n planned h (Quit l) = (8 ≤ (past_of h l.0).connections) ⊎ (8 ≤ (past_of h l.0).failed_tries)
+Fits n planned h (Abort l code) = Unit {0}
+Fits n planned h (Peer l kind) = IsFault n planned h l.0 kind
+
+-- an entry is allowed by those before it
+abbrev pub IsAllowed : ℕ → List Block → List SendEvent → SendEvent → Type 0
+IsAllowed n planned h e = MaySpeak n h (lane_of e) (needs_link e) × Fits n planned h e
+
+abbrev pub legal_from : ℕ → List Block → List SendEvent → List SendEvent → Type 0
+legal_from n planned before [] = Unit {0}
+legal_from n planned before (e ∷ es) = IsAllowed n planned before e × legal_from n planned (before ++ e ∷ []) es
+
+-- each entry is allowed by those before it
+unfoldable pub IsLegal : ℕ → List Block → List SendEvent → Type 0
+IsLegal n planned h = legal_from n planned [] h
+
+legal_from-more : (n : ℕ) (planned : List Block) (b h : List SendEvent) (e : SendEvent) → legal_from n planned b h → IsAllowed n planned (b ++ h) e → legal_from n planned b (h ++ e ∷ [])
+legal_from-more n planned b [] e l a = (subst (λ (x : List SendEvent). IsAllowed n planned x e) (append-nil b) a, tt)
+legal_from-more n planned b (d ∷ h) e l a = (l.0, legal_from-more n planned (b ++ d ∷ []) h e l.1 (subst (λ (x : List SendEvent). IsAllowed n planned x e) (sym (append_assoc b (d ∷ []) h)) a))
+
+-- a legal history with an entry that it allows
+pub IsLegal-more : (n : ℕ) (planned : List Block) (h : List SendEvent) (e : SendEvent) → IsLegal n planned h → IsAllowed n planned h e → IsLegal n planned (h ++ e ∷ [])
+unfolding IsLegal
+IsLegal-more n planned h e l a = legal_from-more n planned [] h e l a
+
+-- nothing has happened
+pub IsLegal-none : (n : ℕ) (planned : List Block) → IsLegal n planned []
+unfolding IsLegal
+IsLegal-none n planned = tt
