@@ -3,7 +3,6 @@ use Rattle.std.specs.Prelude.{ℕ, ◌==◌, ◌||◌, not, nat_lt, nat_le, Bool
 use Rattle.std.specs.List.{list_any}
 use Rattle.wdt_units.specs.LaneWords.{Claims}
 use Rattle.wdt_codec.specs.declared.frames.Frame.{Frame}
-use Rattle.wdt_codec.specs.declared.frames.Frame.TheVariants as frames
 use Rattle.wdt_codec.specs.declared.frames.Mark.{Mark}
 use Rattle.wdt_sender_fsm.specs.declared.events.SendEvent.{SendEvent}
 use Rattle.wdt_sender_fsm.specs.declared.inputs.SendIn.TheVariants.{Got}
@@ -11,7 +10,7 @@ use Rattle.wdt_sender_fsm.specs.declared.peers.PeerKind.{PeerKind}
 use Rattle.wdt_sender_fsm.specs.declared.peers.PeerKind.TheVariants.{BadCheckpoint, Differs, Unexpected as UnexpectedFrame}
 use Rattle.wdt_sender_fsm.specs.declared.states.SendState.{SendState}
 use Rattle.wdt_sender_fsm.specs.Rows.{Row, Unexpected, Greeted, DoneAtOnce, Marked, row_of, place_of, command_of}
-use Rattle.wdt_sender_fsm.specs.SenderHistory.{LanePast, past_of}
+use Rattle.wdt_sender_fsm.specs.SenderHistory.{past_of}
 
 -- a frame that may not come in a state
 abbrev pub unexpected_in : SendState → Frame → PeerKind

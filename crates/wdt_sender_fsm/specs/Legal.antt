@@ -1,5 +1,5 @@
 -- Which entries may follow a history, and which histories are legal.
-use Rattle.std.specs.Prelude.{◌≡◌, ◌≢◌, ◌⊎◌, ℕ, ◌+◌, ◌<◌, ◌≤◌, not, Bool, true, false, List, [], ◌∷◌, ◌++◌, length, Option, Some, None, ◌==◌}
+use Rattle.std.specs.Prelude.{◌≡◌, ◌≢◌, ◌⊎◌, ℕ, ◌+◌, ◌<◌, ◌≤◌, not, Bool, true, false, List, [], ◌∷◌, ◌++◌, length, Option, Some, None}
 use Rattle.std.proofs.Common.{subst, sym, append_assoc, append-nil}
 use Rattle.wdt_units.specs.LaneWords.{Claims}
 use Rattle.wdt_units.specs.declared.blocks.Block.{Block}
@@ -13,7 +13,7 @@ use Rattle.wdt_sender_fsm.specs.declared.states.SendState.TheVariants as states
 use Rattle.wdt_sender_fsm.specs.Faults.{has_no_row}
 use Rattle.wdt_sender_fsm.specs.Places.{claims_of, holding, least_of, queued, unfinished}
 use Rattle.wdt_sender_fsm.specs.Rows.{place_of, command_of}
-use Rattle.wdt_sender_fsm.specs.SenderHistory.{LanePast, past_of, end_of, lane_of}
+use Rattle.wdt_sender_fsm.specs.SenderHistory.{past_of, end_of, lane_of}
 
 -- ---- whose turn it may be
 

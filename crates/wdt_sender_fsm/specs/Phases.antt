@@ -1,7 +1,6 @@
 -- What the two ends of a connection say in turn.
-use Rattle.std.specs.Prelude.{◌≡◌, ◌⊎◌, ℕ, zero, suc, ◌+◌, ◌-◌, ◌*◌, ◌/◌, ◌==◌, min, Bool, true, false, if◌then◌else◌, List, [], ◌∷◌, map, Option, Some, None}
+use Rattle.std.specs.Prelude.{◌≡◌, ◌⊎◌, ℕ, ◌+◌, ◌-◌, ◌*◌, ◌/◌, ◌==◌, min, Bool, true, false, if◌then◌else◌, List, [], ◌∷◌, Option, Some, None}
 use Rattle.std.specs.Option.{option_and_then}
-use Rattle.wdt_units.specs.declared.blocks.Header.{Header}
 use Rattle.wdt_codec.specs.declared.frames.Frame.{Frame}
 use Rattle.wdt_codec.specs.declared.frames.Frame.TheVariants as frames
 use Rattle.wdt_sender_fsm.specs.declared.acts.SendAct.{SendAct}
@@ -12,7 +11,7 @@ use Rattle.wdt_sender_fsm.specs.declared.states.SendLane.{SendLane}
 use Rattle.wdt_sender_fsm.specs.declared.states.SendState.{SendState}
 use Rattle.wdt_sender_fsm.specs.declared.states.SendState.TheVariants as states
 use Rattle.wdt_sender_fsm.specs.Places.{tabulate}
-use Rattle.wdt_sender_fsm.specs.Talk.{Talk, downs, ups}
+use Rattle.wdt_sender_fsm.specs.Talk.{Talk, downs}
 
 -- what a connection is at; in each phase one end has the word
 pub data Phase : Type 0 where

@@ -1,10 +1,10 @@
 -- Where each block of the plan stands, read off the history.
-use Rattle.std.specs.Prelude.{◌≡◌, ℕ, zero, suc, ◌+◌, ◌-◌, ◌==◌, ◌&&◌, ◌||◌, not, Bool, true, false, if◌then◌else◌, List, [], ◌∷◌, ◌++◌, length, take, drop, filter, count_by, Option, Some, None}
+use Rattle.std.specs.Prelude.{ℕ, zero, suc, ◌+◌, ◌-◌, ◌==◌, ◌&&◌, not, Bool, if◌then◌else◌, List, [], ◌∷◌, ◌++◌, length, take, drop, filter, count_by, Option, Some, None}
 use Rattle.std.specs.List.{list_any}
 use Rattle.wdt_units.specs.LaneWords.{Claims}
 use Rattle.wdt_units.specs.declared.blocks.Block.{Block}
 use Rattle.wdt_sender_fsm.specs.declared.events.SendEvent.{SendEvent}
-use Rattle.wdt_sender_fsm.specs.SenderHistory.{LanePast, past_of}
+use Rattle.wdt_sender_fsm.specs.SenderHistory.{past_of}
 
 -- what f gives for the numbers below n, in order
 abbrev pub tabulate : {X : Type 0} → ℕ → (ℕ → X) → List X

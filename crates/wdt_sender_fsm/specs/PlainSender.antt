@@ -1,6 +1,6 @@
 -- A sender's end as plain data. What its lanes have claimed, what waits and how often each was
 -- connected isn't kept beside the history, since the history says it.
-use Rattle.std.specs.Prelude.{ℕ, ◌+◌, ◌&&◌, ◌||◌, not, Bool, true, false, List, [], ◌∷◌, ◌++◌, length, sum_by, slice_get, slice_set, is_some, Option, Some, None}
+use Rattle.std.specs.Prelude.{ℕ, ◌&&◌, ◌||◌, Bool, true, false, List, [], ◌++◌, length, sum_by, slice_get, slice_set, is_some, Option, Some, None}
 use Rattle.wdt_units.specs.Have.{HaveFile}
 use Rattle.wdt_units.specs.declared.blocks.Block.{Block}
 use Rattle.wdt_units.specs.declared.blocks.Header.{Header}
@@ -17,8 +17,8 @@ use Rattle.wdt_sender_fsm.specs.declared.states.SendLane.{SendLane}
 use Rattle.wdt_sender_fsm.specs.declared.states.SendState.{SendState}
 use Rattle.wdt_sender_fsm.specs.declared.states.SendState.TheVariants as states
 use Rattle.wdt_sender_fsm.specs.Places.{least_of, queued, unfinished}
-use Rattle.wdt_sender_fsm.specs.Rules.{every, judged, is_failure}
-use Rattle.wdt_sender_fsm.specs.SenderHistory.{LanePast, EndPast, past_of, end_of}
+use Rattle.wdt_sender_fsm.specs.Rules.{every, judged}
+use Rattle.wdt_sender_fsm.specs.SenderHistory.{LanePast, past_of, end_of}
 
 pub record PlainSender : Type 0 where
   -- the files of the tree, in the order of their paths
@@ -44,8 +44,14 @@ new_lane = record { state = states.Connect; ask = false }
 abbrev pub opened : List Entry → ℕ → ℕ → List SendLane → PlainSender
 opened manifest block session lanes =
     record {
-      manifest = manifest; block = block; session = session; have = None; planned = None; lanes = lanes;
-      history = []; answer = Going;
+      manifest = manifest;
+      block = block;
+      session = session;
+      have = None;
+      planned = None;
+      lanes = lanes;
+      history = [];
+      answer = Going;
     }
 
 -- ---- its lanes
@@ -95,7 +101,12 @@ unfinished_blocks s = unfinished (length s.lanes) (blocks_of s) s.history
 abbrev pub settings_of : PlainSender → Lane → Conn → Bool → Frame
 settings_of s l conn ask =
     frames.Settings record {
-      version = 1; session = s.session; lane = l; lanes = length s.lanes; conn = conn; block = s.block;
+      version = 1;
+      session = s.session;
+      lane = l;
+      lanes = length s.lanes;
+      conn = conn;
+      block = s.block;
       ask = ask;
     }
 

@@ -1,5 +1,5 @@
 -- What a sender's history says of each lane, and of the whole end.
-use Rattle.std.specs.Prelude.{◌≡◌, refl, ℕ, zero, suc, ◌+◌, ◌==◌, Bool, true, false, if◌then◌else◌, List, [], ◌∷◌, ◌++◌, Option, Some, None}
+use Rattle.std.specs.Prelude.{◌≡◌, refl, ℕ, ◌+◌, ◌==◌, Bool, true, false, if◌then◌else◌, List, [], ◌∷◌, ◌++◌, Option, Some, None}
 use Rattle.wdt_units.specs.LaneWords.{Claims, no_claims, claimed, sent, cut_to, closed_at, finished}
 use Rattle.wdt_sender_fsm.specs.declared.events.SendEvent.{SendEvent}
 use Rattle.wdt_sender_fsm.specs.declared.events.SendEvent.TheVariants.{Linked, NoLink, Lost, Greet, Chunks, Claim, Sent, Done, Global, Finish, Acked, Quit, Abort, Peer}
@@ -26,8 +26,14 @@ pub record LanePast : Type 0 where
 abbrev pub no_past : LanePast
 no_past =
     record {
-      claims = no_claims; connections = 0; failed_tries = 0; is_up = false; is_greeted = false; has_finish = false;
-      is_acked = false; has_quit = false;
+      claims = no_claims;
+      connections = 0;
+      failed_tries = 0;
+      is_up = false;
+      is_greeted = false;
+      has_finish = false;
+      is_acked = false;
+      has_quit = false;
     }
 
 -- a lane is closed once, by the first that says so
@@ -139,7 +145,8 @@ has_fault_after s _ = s
 abbrev pub end_after : EndPast → SendEvent → EndPast
 end_after s e =
     record {
-      is_listed = is_listed_after s.is_listed e; has_finish = end_finish_after s.has_finish e;
+      is_listed = is_listed_after s.is_listed e;
+      has_finish = end_finish_after s.has_finish e;
       has_fault = has_fault_after s.has_fault e;
     }
 

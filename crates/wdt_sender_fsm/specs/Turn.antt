@@ -1,5 +1,5 @@
 -- A step of a sender's lane: for each plain sender, lane and input one act and one plain sender.
-use Rattle.std.specs.Prelude.{ℕ, ◌+◌, ◌==◌, ◌||◌, nat_le, not, Bool, true, false, if◌then◌else◌, List, [], ◌∷◌, ◌++◌, length, is_some, map, Option, Some, None}
+use Rattle.std.specs.Prelude.{ℕ, ◌+◌, ◌==◌, ◌||◌, nat_le, not, Bool, true, false, if◌then◌else◌, List, [], ◌∷◌, length, is_some, map, Option, Some, None}
 use Rattle.wdt_units.specs.Have.{HaveFile}
 use Rattle.wdt_units.specs.declared.blocks.Block.{Block}
 use Rattle.wdt_units.specs.declared.numbers.Conn.{Conn}
