@@ -27,3 +27,6 @@ pub use laws::worked_steps;
 pub use peers::PeerKind;
 pub use rows::{SendRow, allowed, row};
 pub use states::{SendLane, SendState};
+
+#[cfg(test)]
+mod tests;
