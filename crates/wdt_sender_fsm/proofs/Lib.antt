@@ -1,1 +1,5 @@
+pub mod Phases
+pub mod Speaks
+pub mod Steps
+pub mod Talk
 pub mod Worked

@@ -11,7 +11,7 @@ use Rattle.wdt_sender_fsm.specs.declared.states.SendLane.{SendLane}
 use Rattle.wdt_sender_fsm.specs.declared.states.SendState.{SendState}
 use Rattle.wdt_sender_fsm.specs.declared.states.SendState.TheVariants as states
 use Rattle.wdt_sender_fsm.specs.Places.{tabulate}
-use Rattle.wdt_sender_fsm.specs.Talk.{Talk, downs}
+use Rattle.wdt_sender_fsm.specs.Talk.{Talk, moved}
 
 -- what a connection is at; in each phase one end has the word
 pub data Phase : Type 0 where
@@ -82,7 +82,7 @@ Agree = Talk down up
 
 -- the phase after the sender said these, where each has its move
 abbrev pub said : List Message → Phase → Option Phase
-said = downs down up
+said = moved down
 
 -- ---- the sender's end
 

@@ -3,17 +3,16 @@
 use Rattle.std.specs.Prelude.{◌≡◌, ◌⊎◌, List, [], ◌∷◌, Option, Some}
 use Rattle.std.specs.Option.{option_and_then}
 
-module _ {P D U : Type 0} (down : P → D → Option P) (up : P → U → Option P) where
-  -- the phase after messages that go down, where each has its move, and of those that go up
-  abbrev pub downs : List D → P → Option P
-  downs [] p = Some p
-  downs (m ∷ ms) p = option_and_then (downs ms) (down p m)
+-- the phase after some messages, where each has its move
+abbrev pub moved : {P M : Type 0} → (P → M → Option P) → List M → P → Option P
+moved move [] p = Some p
+moved move (m ∷ ms) p = option_and_then (moved move ms) (move p m)
 
-  abbrev pub ups : List U → P → Option P
-  ups [] p = Some p
-  ups (m ∷ ms) p = option_and_then (ups ms) (up p m)
+-- the ends agree: nothing goes up, and what goes down leads the second end to the first's phase; or the
+-- other way round
+abbrev pub Talk : {P D U : Type 0} → (P → D → Option P) → (P → U → Option P) → P → P → List D → List U → Type 0
+Talk down up s r ds us = ((us ≡ []) × (moved down ds r ≡ Some s)) ⊎ ((ds ≡ []) × (moved up us s ≡ Some r))
 
-  -- the ends agree: nothing goes up, and what goes down leads the second end to the first's phase; or
-  -- the other way round
-  abbrev pub Talk : P → P → List D → List U → Type 0
-  Talk s r ds us = ((us ≡ []) × (downs ds r ≡ Some s)) ⊎ ((ds ≡ []) × (ups us s ≡ Some r))
+-- in no phase both ends have the word
+abbrev pub OneTalker : {P D U : Type 0} → (P → D → Option P) → (P → U → Option P) → Type 0
+OneTalker {P} {D} {U} down up = (p q r : P) (m : D) (u : U) → down p m ≡ Some q → up p u ≡ Some r → ⊥

@@ -117,11 +117,14 @@ abbrev pub listed_again : PlainSender → Lane → List HaveFile → Option ℕ 
 listed_again s l have (Some at) = faults s l (Listed have) (peers.ChunksDiffer at)
 listed_again s l have None = writes_size (noted s (events.Chunks l ∷ [])) l
 
+-- what the destination has was read, and the blocks that it lacks are planned
+abbrev pub with_plan : PlainSender → List HaveFile → PlainSender
+with_plan s have = record s { have = Some have; planned = Some (rest_of s.manifest have s.block) }
+
 -- the blocks are planned, or the tree isn't sent
 abbrev pub planned_by : PlainSender → Lane → List HaveFile → Option RefusedKind → Step
 planned_by s l have (Some kind) = fails_with s l (Listed have) (answers.Refused kind)
-planned_by s l have None =
-    writes_size (noted record s { have = Some have; planned = Some (rest_of s.manifest have s.block) } (events.Chunks l ∷ [])) l
+planned_by s l have None = writes_size (noted (with_plan s have) (events.Chunks l ∷ [])) l
 
 abbrev pub listed_after : PlainSender → Lane → List HaveFile → Option (List HaveFile) → Step
 listed_after s l have (Some first) = listed_again s l have (different_at first have)
