@@ -1,5 +1,6 @@
 pub mod Phases
 pub mod Speaks
+pub mod Stands
 pub mod Steps
 pub mod Talk
 pub mod Worked

@@ -1,6 +1,7 @@
 -- What the two ends of a connection say in turn.
 use Rattle.std.specs.Prelude.{◌≡◌, ◌⊎◌, ℕ, ◌+◌, ◌-◌, ◌*◌, ◌/◌, ◌==◌, min, Bool, true, false, if◌then◌else◌, List, [], ◌∷◌, Option, Some, None}
 use Rattle.std.specs.Option.{option_and_then}
+use Rattle.wdt_units.specs.declared.numbers.Lane.{Lane}
 use Rattle.wdt_codec.specs.declared.frames.Frame.{Frame}
 use Rattle.wdt_codec.specs.declared.frames.Frame.TheVariants as frames
 use Rattle.wdt_sender_fsm.specs.declared.acts.SendAct.{SendAct}
@@ -11,6 +12,9 @@ use Rattle.wdt_sender_fsm.specs.declared.states.SendLane.{SendLane}
 use Rattle.wdt_sender_fsm.specs.declared.states.SendState.{SendState}
 use Rattle.wdt_sender_fsm.specs.declared.states.SendState.TheVariants as states
 use Rattle.wdt_sender_fsm.specs.Places.{tabulate}
+use Rattle.wdt_sender_fsm.specs.PlainSender.{PlainSender, lane_at, past_at}
+use Rattle.wdt_sender_fsm.specs.Rows.{Row, Over as RowOver, Starved, Stray, Aborted, BadFrame, SourceLost, Unexpected}
+use Rattle.wdt_sender_fsm.specs.Rules.{is_failure}
 use Rattle.wdt_sender_fsm.specs.Talk.{Talk, moved}
 
 -- what a connection is at; in each phase one end has the word
@@ -157,3 +161,18 @@ abbrev pub FitsLane : SendLane → SendAct → Type 0
 FitsLane lane (acts.Write frame) = (is_abort frame ≡ true) ⊎ Leads (written_by (acts.Write frame)) (phase_of lane false) (phase_written lane.ask lane.state)
 FitsLane lane (acts.SendBlock header) = Leads (written_by (acts.SendBlock header)) (phase_of lane false) (phase_written lane.ask lane.state)
 FitsLane lane _ = Unit {0}
+
+-- a row of the table, and not one of the rules before it
+abbrev pub is_named : Row → Bool
+is_named RowOver = false
+is_named (Starved mute) = false
+is_named Stray = false
+is_named (Aborted code) = false
+is_named (BadFrame at) = false
+is_named (SourceLost unwritten) = false
+is_named (Unexpected state command) = false
+is_named _ = true
+
+-- behind a step the end has failed, or its lane stands in this phase
+abbrev pub StandsIn : Phase → Lane → PlainSender → Type 0
+StandsIn phase l s = (is_failure s.answer ≡ true) ⊎ (phase_of (lane_at s l.0) (past_at s l.0).is_acked ≡ Some phase)
