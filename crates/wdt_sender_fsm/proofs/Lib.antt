@@ -1,3 +1,4 @@
+pub mod Histories
 pub mod Phases
 pub mod Speaks
 pub mod Stands

@@ -13,7 +13,7 @@ use Rattle.wdt_sender_fsm.specs.declared.states.SendState.TheVariants as states
 use Rattle.wdt_sender_fsm.specs.Faults.{has_no_row}
 use Rattle.wdt_sender_fsm.specs.Places.{claims_of, holding, least_of, queued, unfinished}
 use Rattle.wdt_sender_fsm.specs.Rows.{place_of, command_of}
-use Rattle.wdt_sender_fsm.specs.SenderHistory.{past_of, end_of, lane_of}
+use Rattle.wdt_sender_fsm.specs.SenderHistory.{LanePast, past_of, end_of, lane_of}
 
 -- ---- whose turn it may be
 
@@ -138,3 +138,14 @@ IsLegal-more n planned h e l a = legal_from-more n planned [] h e l a
 pub IsLegal-none : (n : ℕ) (planned : List Block) → IsLegal n planned []
 unfolding IsLegal
 IsLegal-none n planned = tt
+
+-- ---- what a legal history says of a lane
+
+-- what has surely landed was claimed, and of a block that is being written it isn't known; the count of
+-- a closed lane is all that it keeps; and no lane has more than eight connections, or tries that failed
+pub record IsSound (s : LanePast) : Type 0 where
+  pub sure : s.claims.sure ≤ length s.claims.kept
+  pub held : s.claims.held ≡ true → s.claims.sure < length s.claims.kept
+  pub closed : (n : ℕ) → s.claims.closed ≡ Some n → (n ≡ s.claims.sure) × (n ≡ length s.claims.kept)
+  pub connections : s.connections ≤ 8
+  pub failed_tries : s.failed_tries ≤ 8

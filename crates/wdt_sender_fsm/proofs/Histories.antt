@@ -1,0 +1,131 @@
+-- Induction over legal histories, and what they say of a lane.
+use Rattle.std.proofs.Common.{◌≡◌, ◌⊎◌, ◌≢◌, ℕ, zero, suc, ◌+◌, ◌<◌, ◌≤◌, ◌==◌, min, List, [], ◌∷◌, ◌++◌, length, take, Bool, true, false, if◌then◌else◌, Option, Some, None, subst, sym, ap, ◌∙◌, arith, refl, inl, inr, append_assoc, append-nil, eq-eqb}
+use Rattle.std.proofs.lemmas.Bool.{cases_eq, ne_eqb}
+use Rattle.std.proofs.lemmas.List.{length-take-le, length-append}
+use Rattle.std.proofs.lemmas.Option.{same_Some}
+use Rattle.wdt_units.specs.LaneWords.{Claims, no_claims, claimed, sent, cut_to, closed_at, finished}
+use Rattle.wdt_units.specs.declared.blocks.Block.{Block}
+use Rattle.wdt_sender_fsm.specs.declared.events.SendEvent.{SendEvent}
+use Rattle.wdt_sender_fsm.specs.declared.events.SendEvent.TheVariants.{Linked, NoLink, Lost, Greet, Chunks, Claim, Sent, Done, Global, Finish, Acked, Quit, Abort, Peer}
+use Rattle.wdt_sender_fsm.specs.Legal.{IsAllowed, IsLegal, IsSound, IsWithin, Tells, TellsBy, legal_from}
+use Rattle.wdt_sender_fsm.specs.SenderHistory.{LanePast, past_of, past_of-more, past_of-none, past_after, close_by, claims_after, connections_after, failed_tries_after}
+
+-- ---- induction
+
+kept_from : (n : ℕ) (planned : List Block) (Has : List SendEvent → Type 0) → ((b : List SendEvent) (e : SendEvent) → Has b → IsAllowed n planned b e → Has (b ++ e ∷ [])) → (b h : List SendEvent) → Has b → legal_from n planned b h → Has (b ++ h)
+kept_from n planned Has step b [] has legal = subst Has (sym (append-nil b)) has
+kept_from n planned Has step b (e ∷ es) has legal = subst Has (append_assoc b (e ∷ []) es) (kept_from n planned Has step (b ++ e ∷ []) es (step b e has legal.0) legal.1)
+
+-- what holds at first, and is kept by each entry that is allowed, holds of a legal history
+pub of_legal : (n : ℕ) (planned : List Block) (Has : List SendEvent → Type 0) → Has [] → ((b : List SendEvent) (e : SendEvent) → Has b → IsAllowed n planned b e → Has (b ++ e ∷ [])) → (h : List SendEvent) → IsLegal n planned h → Has h
+unfolding IsLegal
+of_legal n planned Has none step h legal = kept_from n planned Has step [] h none legal
+
+-- ---- an entry of this lane, or of another
+
+-- what holds of both holds of the one that is chosen
+pub if_same : {X : Type 0} (P : X → Type 0) (k l : ℕ) (x y : X) → (k ≡ l → P x) → P y → P (if k == l then x else y)
+if_same {X} P k l x y f g = go (cases_eq k l) where
+  go : (k ≡ l) ⊎ (k ≢ l) → P (if k == l then x else y)
+  go (inl e) = rw (eq-eqb k l e) (f e)
+  go (inr ne) = rw (ne_eqb k l ne) g
+
+-- ---- what a lane has claimed
+
+record IsSoundClaims (s : Claims) : Type 0 where
+  pub sure : s.sure ≤ length s.kept
+  pub held : s.held ≡ true → s.sure < length s.kept
+  pub closed : (n : ℕ) → s.closed ≡ Some n → (n ≡ s.sure) × (n ≡ length s.kept)
+
+not_held : {X : Type 0} → false ≡ true → X
+not_held e = cc
+
+not_closed : {X : Type 0} (o : Option ℕ) (n : ℕ) → o ≡ None → o ≡ Some n → X
+not_closed o n e f = cc
+
+cut_sound : (s : Claims) (n : ℕ) → s.closed ≡ None → n ≤ length s.kept → IsSoundClaims (cut_to n 0 s)
+cut_sound s n open_is within =
+    let long : length (take n s.kept) ≡ n = length-take-le n s.kept within in
+    record { sure = omega (arith, long); held = λ h. not_held h; closed = λ m c. not_closed s.closed m open_is c }
+
+claimed_sound : (s : Claims) (b : Block) → s.closed ≡ None → IsSoundClaims s → IsSoundClaims (claimed b s)
+claimed_sound s b open_is sound =
+    let long : length (s.kept ++ b ∷ []) ≡ length s.kept + 1 = length-append s.kept (b ∷ []) in
+    record { sure = omega (arith, long, sound.sure); held = λ h. omega (arith, long, sound.sure); closed = λ m c. not_closed s.closed m open_is c }
+
+closed_sound : (s : Claims) (n : ℕ) → n ≤ length s.kept → IsSoundClaims (closed_at n 0 s)
+closed_sound s n within =
+    let long : length (take n s.kept) ≡ n = length-take-le n s.kept within in
+    record { sure = omega (arith, long); held = λ h. not_held h; closed = λ m c. (sym (same_Some n m c), sym (same_Some n m c) ∙ sym long) }
+
+close_sound : (o : Option ℕ) (s : Claims) (n : ℕ) → TellsBy o s n → IsSoundClaims s → IsSoundClaims (close_by o n s)
+close_sound None s n tells sound = closed_sound s n tells.1
+close_sound (Some m) s n tells sound = sound
+
+finished_sound : (s : Claims) → IsSoundClaims s → IsSoundClaims (finished s)
+finished_sound s sound = record { sure = omega arith; held = λ h. not_held h; closed = λ m c. ((sound.closed m c).1, (sound.closed m c).1) }
+
+sent_sound : (s : Claims) → IsSoundClaims s → IsSoundClaims (sent s)
+sent_sound s sound = record { sure = sound.sure; held = λ h. not_held h; closed = sound.closed }
+
+abbrev ClaimsAfter : ℕ → List SendEvent → SendEvent → Type 0
+ClaimsAfter l b e = IsSoundClaims (claims_after l (past_of b l).claims e)
+
+claims_sound : (n : ℕ) (planned : List Block) (b : List SendEvent) (e : SendEvent) (l : ℕ) → IsSoundClaims (past_of b l).claims → IsAllowed n planned b e → ClaimsAfter l b e
+claims_sound n planned b (Greet k c) l sound is =
+    let s = (past_of b l).claims in
+    if_same IsSoundClaims k.0 l (cut_to c 0 s) s (λ e. subst (λ (j : ℕ). IsSoundClaims (cut_to c 0 (past_of b j).claims)) e (cut_sound (past_of b k.0).claims c is.0.is_open is.1.1)) sound
+claims_sound n planned b (Claim k x) l sound is =
+    let s = (past_of b l).claims in
+    if_same IsSoundClaims k.0 l (claimed x s) s (λ e. claimed_sound s x (subst (λ (j : ℕ). (past_of b j).claims.closed ≡ None) e is.0.is_open) sound) sound
+claims_sound n planned b (Sent k) l sound is =
+    let s = (past_of b l).claims in if_same IsSoundClaims k.0 l (sent s) s (λ e. sent_sound s sound) sound
+claims_sound n planned b (Global k c m) l sound is =
+    let s = (past_of b l).claims in
+    if_same IsSoundClaims c.0 l (close_by s.closed m s) s (λ e. close_sound s.closed s m (subst (λ (j : ℕ). Tells (past_of b j).claims m) e is.1.2) sound) sound
+claims_sound n planned b (Finish k) l sound is = finished_sound (past_of b l).claims sound
+claims_sound n planned b (Linked k c) l sound is = sound
+claims_sound n planned b (NoLink k) l sound is = sound
+claims_sound n planned b (Lost k) l sound is = sound
+claims_sound n planned b (Chunks k) l sound is = sound
+claims_sound n planned b (Done k) l sound is = sound
+claims_sound n planned b (Acked k) l sound is = sound
+claims_sound n planned b (Quit k) l sound is = sound
+claims_sound n planned b (Abort k c) l sound is = sound
+claims_sound n planned b (Peer k c) l sound is = sound
+
+-- ---- its connections
+
+abbrev Few : ℕ → Type 0
+Few n = n ≤ 8
+
+connections_few : (n : ℕ) (planned : List Block) (b : List SendEvent) (e : SendEvent) (l : ℕ) → Few (past_of b l).connections → IsAllowed n planned b e → Few (connections_after l (past_of b l).connections e)
+connections_few n planned b (Linked k c) l few is =
+    if_same Few k.0 l ((past_of b l).connections + 1) (past_of b l).connections
+      (λ e. subst (λ (j : ℕ). (past_of b j).connections + 1 ≤ 8) e (subst Few is.1.0 is.1.1)) few
+connections_few n planned b _ l few is = few
+
+tries_few : (n : ℕ) (planned : List Block) (b : List SendEvent) (e : SendEvent) (l : ℕ) → Few (past_of b l).failed_tries → IsAllowed n planned b e → Few (failed_tries_after l (past_of b l).failed_tries e)
+tries_few n planned b (NoLink k) l few is =
+    if_same Few k.0 l ((past_of b l).failed_tries + 1) (past_of b l).failed_tries
+      (λ e. subst (λ (j : ℕ). (past_of b j).failed_tries + 1 ≤ 8) e (omega (arith, is.1))) few
+tries_few n planned b _ l few is = few
+
+-- ---- all of it
+
+none_sound : (l : ℕ) → IsSound (past_of [] l)
+none_sound l = subst IsSound (sym (past_of-none l)) record {
+    sure = omega arith; held = λ h. not_held h; closed = λ n c. not_closed None n refl c; connections = omega arith; failed_tries = omega arith
+  }
+
+step_sound : (n : ℕ) (planned : List Block) (b : List SendEvent) (e : SendEvent) → ((l : ℕ) → IsSound (past_of b l)) → IsAllowed n planned b e → (l : ℕ) → IsSound (past_of (b ++ e ∷ []) l)
+step_sound n planned b e sound is l =
+    let old = sound l in
+    let new = claims_sound n planned b e l record { sure = old.sure; held = old.held; closed = old.closed } is in
+    subst IsSound (sym (past_of-more b e l)) record {
+      sure = new.sure; held = new.held; closed = new.closed;
+      connections = connections_few n planned b e l old.connections is; failed_tries = tries_few n planned b e l old.failed_tries is;
+    }
+
+pub legal_sound : (n : ℕ) (planned : List Block) (h : List SendEvent) (l : ℕ) → IsLegal n planned h → IsSound (past_of h l)
+legal_sound n planned h l legal = of_legal n planned (λ b. (k : ℕ) → IsSound (past_of b k)) none_sound (step_sound n planned) h legal l
