@@ -1,3 +1,5 @@
+pub mod Confirmed
+pub mod Counts
 pub mod Histories
 pub mod Phases
 pub mod Speaks
