@@ -20,8 +20,8 @@ use Rattle.wdt_discover.specs.declared.fail.PlanFail.TheVariants as plans
 use Rattle.wdt_discover.specs.Plan.{refusal, too_many}
 use Rattle.wdt_cli.specs.declared.rehearse.Failure.{Failure}
 use Rattle.wdt_cli.specs.declared.rehearse.Failure.TheVariants as failure
-use Rattle.wdt_cli.specs.declared.status.RefusedKind.{RefusedKind}
-use Rattle.wdt_cli.specs.declared.status.RefusedKind.TheVariants.{BadPath, Reserved, Twice, TooMany, TooLarge, TooManyBlocks}
+use Rattle.wdt_sender_fsm.specs.declared.answers.RefusedKind.{RefusedKind}
+use Rattle.wdt_sender_fsm.specs.declared.answers.RefusedKind.TheVariants.{BadScript, BadPath, Reserved, Twice, TooMany, TooLarge, TooManyBlocks, Stale, BadLog}
 use Rattle.wdt_cli.specs.Causes.{HasTooManyBlocks, IsCause, IsRefusedFor, RefusesRun}
 use Rattle.wdt_cli.specs.Failures.{refusal_of, unplanned_of, IsPlanFailure}
 use Rattle.wdt_cli.proofs.Unique.{one-order}
@@ -101,6 +101,9 @@ past-check A B manifest listing (Twice at) r refuses many is = absurd (refuses (
 past-check A B manifest listing (TooMany count) r refuses many is = absurd (refuses (fail.TooMany count) is)
 past-check A B manifest listing (TooLarge at) r refuses many is = absurd (refuses (fail.TooLarge at) is)
 past-check A B manifest listing (TooManyBlocks count) r refuses many is = many count is
+past-check A B manifest listing (BadScript line) r refuses many is = absurd is
+past-check A B manifest listing (Stale path logged found) r refuses many is = absurd is
+past-check A B manifest listing (BadLog at) r refuses many is = absurd is
 
 same_kind : (k j : RefusedKind) → failure.Refused k ≡ failure.Refused j → k ≡ j
 same_kind k j e = cc
@@ -129,6 +132,9 @@ at-check A B listing given (Reserved at) refuses refused is = same-refusal A B g
 at-check A B listing given (Twice at) refuses refused is = same-refusal A B given (fail.Twice at) (Twice at) refl (refuses (fail.Twice at) is)
 at-check A B listing given (TooMany count) refuses refused is = same-refusal A B given (fail.TooMany count) (TooMany count) refl (refuses (fail.TooMany count) is)
 at-check A B listing given (TooLarge at) refuses refused is = same-refusal A B given (fail.TooLarge at) (TooLarge at) refl (refuses (fail.TooLarge at) is)
+at-check A B listing given (BadScript line) refuses refused is = absurd is
+at-check A B listing given (Stale path logged found) refuses refused is = absurd is
+at-check A B listing given (BadLog at) refuses refused is = absurd is
 at-check A B listing given (TooManyBlocks count) refuses refused is = no-memory A given (TooManyBlocks count) (λ other. accepts listing is.accepted given (refused other))
 
 -- ---- the same of a listing that is told

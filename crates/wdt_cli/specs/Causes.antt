@@ -6,8 +6,8 @@ use Rattle.wdt_tree.specs.declared.manifest.ManifestFail.TheVariants as fail
 use Rattle.wdt_units.specs.declared.blocks.Block.{Block}
 use Rattle.wdt_tree.specs.Listing.{IsAccepted, IsRefused, Orders}
 use Rattle.wdt_tree.specs.Rest.{IsRest}
-use Rattle.wdt_cli.specs.declared.status.RefusedKind.{RefusedKind}
-use Rattle.wdt_cli.specs.declared.status.RefusedKind.TheVariants.{BadPath, Reserved, Twice, TooMany, TooLarge, TooManyBlocks}
+use Rattle.wdt_sender_fsm.specs.declared.answers.RefusedKind.{RefusedKind}
+use Rattle.wdt_sender_fsm.specs.declared.answers.RefusedKind.TheVariants.{BadScript, BadPath, Reserved, Twice, TooMany, TooLarge, TooManyBlocks, Stale, BadLog}
 use Rattle.wdt_cli.specs.declared.status.Status.{Status}
 use Rattle.wdt_cli.specs.declared.status.Status.TheVariants.{Done, Refused, OutFault, NoMemory}
 use Rattle.wdt_cli.specs.declared.rehearse.Failure.{Failure}
@@ -23,7 +23,8 @@ pub record HasTooManyBlocks (listing : List Entry) (count : ℕ) : Type 0 where
   pub long : count ≡ length blocks
   pub over : 1048576 < count
 
--- a listing is refused for this: as no tree's, else for too many blocks
+-- a listing is refused for this: as no tree's, else for too many blocks. (No script and no log is read,
+-- and the receiver has no file.)
 abbrev pub IsRefusedFor : List Entry → RefusedKind → Type 0
 IsRefusedFor listing (BadPath at) = IsRefused listing (fail.BadPath at)
 IsRefusedFor listing (Reserved at) = IsRefused listing (fail.Reserved at)
@@ -31,6 +32,9 @@ IsRefusedFor listing (Twice at) = IsRefused listing (fail.Twice at)
 IsRefusedFor listing (TooMany count) = IsRefused listing (fail.TooMany count)
 IsRefusedFor listing (TooLarge at) = IsRefused listing (fail.TooLarge at)
 IsRefusedFor listing (TooManyBlocks count) = HasTooManyBlocks listing count
+IsRefusedFor listing (BadScript line) = ⊥
+IsRefusedFor listing (Stale path logged found) = ⊥
+IsRefusedFor listing (BadLog at) = ⊥
 
 -- a listing is refused for this, where it is told
 abbrev pub IsToldRefused : Option (List Entry) → RefusedKind → Type 0

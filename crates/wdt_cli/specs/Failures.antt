@@ -5,7 +5,7 @@ use Rattle.wdt_discover.specs.declared.fail.PlanFail.{PlanFail}
 use Rattle.wdt_discover.specs.declared.fail.PlanFail.TheVariants as plans
 use Rattle.wdt_source.specs.declared.failure.SourceFail.{SourceFail}
 use Rattle.wdt_source.specs.declared.failure.SourceFail.TheVariants as sources
-use Rattle.wdt_cli.specs.declared.status.RefusedKind.TheVariants.{BadPath, Reserved, Twice, TooMany, TooLarge, TooManyBlocks}
+use Rattle.wdt_sender_fsm.specs.declared.answers.RefusedKind.TheVariants.{BadPath, Reserved, Twice, TooMany, TooLarge, TooManyBlocks}
 use Rattle.wdt_cli.specs.declared.rehearse.Failure.{Failure}
 use Rattle.wdt_cli.specs.declared.rehearse.Failure.TheVariants.{Source, Refused, NoMemory}
 

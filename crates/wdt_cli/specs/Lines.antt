@@ -1,5 +1,6 @@
 -- The lines that a run puts to its sink.
-use Rattle.std.specs.Prelude.{◌≡◌, ℕ, List, [], ◌++◌, length, take, map, sum_by, codes, Option, Some, None}
+use Rattle.std.specs.Prelude.{◌≡◌, ℕ, ◌==◌, if◌then◌else◌, List, [], ◌∷◌, ◌++◌, length, take, map, sum_by, codes, Option, Some, None}
+use Rattle.std.specs.List.{flat_map}
 use Rattle.std.specs.Fmt.{decimal}
 use Rattle.wdt_units.specs.Counts.{Stands}
 use Rattle.wdt_units.specs.Tree.{File, length_of}
@@ -9,8 +10,8 @@ use Rattle.wdt_tree.specs.Shown.{entry_of_file}
 use Rattle.wdt_cli.specs.declared.report.Report.{Report}
 use Rattle.wdt_cli.specs.declared.status.Status.{Status}
 use Rattle.wdt_cli.specs.declared.status.Status.TheVariants.{Done, Usage, SourceFault, Refused, OutFault, NoMemory}
-use Rattle.wdt_cli.specs.declared.status.RefusedKind.{RefusedKind}
-use Rattle.wdt_cli.specs.declared.status.RefusedKind.TheVariants.{BadPath, Reserved, Twice, TooMany, TooLarge, TooManyBlocks}
+use Rattle.wdt_sender_fsm.specs.declared.answers.RefusedKind.{RefusedKind}
+use Rattle.wdt_sender_fsm.specs.declared.answers.RefusedKind.TheVariants.{BadScript, BadPath, Reserved, Twice, TooMany, TooLarge, TooManyBlocks, Stale, BadLog}
 
 -- what a run counts that landed these files in so many blocks
 abbrev pub report_of : List File → ℕ → Report
@@ -28,15 +29,25 @@ abbrev pub done_text : Report → List ℕ
 done_text report = codes "files " ++ decimal report.files ++ codes "\nblocks " ++ decimal report.blocks
     ++ codes "\nbytes " ++ decimal report.bytes ++ codes "\nconnections 1\nrequeued 0\nclosed 0\nsessions 1\nok\n"
 
+-- a byte of a path on one line: a backslash as two, a line feed as a backslash and an n
+abbrev pub printed_byte : ℕ → List ℕ
+printed_byte b = if b == 92 then 92 ∷ 92 ∷ [] else if b == 10 then 92 ∷ 110 ∷ [] else b ∷ []
+
+abbrev pub printed : List ℕ → List ℕ
+printed path = flat_map printed_byte path
+
 abbrev pub refusal_of : RefusedKind → List ℕ
+refusal_of (BadScript line) = codes "bad script line " ++ decimal line
 refusal_of (BadPath at) = codes "bad path " ++ decimal at
 refusal_of (Reserved at) = codes "reserved " ++ decimal at
 refusal_of (Twice at) = codes "twice " ++ decimal at
 refusal_of (TooMany count) = codes "too many files " ++ decimal count
 refusal_of (TooLarge at) = codes "too large " ++ decimal at
 refusal_of (TooManyBlocks count) = codes "too many blocks " ++ decimal count
+refusal_of (Stale path logged found) = codes "stale " ++ printed path
+refusal_of (BadLog at) = codes "bad log " ++ decimal at
 
--- the line of a run that refused its tree
+-- the line of a run that is refused
 abbrev pub refusal_line : RefusedKind → List ℕ
 refusal_line kind = codes "refused: " ++ refusal_of kind ++ codes "\n"
 

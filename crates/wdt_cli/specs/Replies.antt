@@ -27,6 +27,10 @@ Takes expected rest (Ok found) left = (found ≡ expected) × (left ≡ rest)
 Takes expected rest (Err fails.NoMemory) left = Unit {0}
 Takes expected rest (Err fails.Unexpected) left = ⊥
 
+-- the bytes begin with those
+abbrev pub Begins : List ℕ → List ℕ → Type 0
+Begins front bytes = (rest : List ℕ) × (bytes ≡ front ++ rest)
+
 -- this is what was read, or memory ran out
 abbrev pub Reads : {A : Type 0} → A → Result A TakeFail → Type 0
 Reads expected (Ok found) = found ≡ expected

@@ -21,12 +21,13 @@ mod trouble;
 mod words;
 
 use folder::FolderSource;
-use status::{RefusedKind, Status};
+use status::Status;
 use std::alloc::{AllocError, Global};
 use std::io;
 use std::process::ExitCode;
 use std::rt::{Env, Files};
 use trouble::OneLine;
+use wdt_sender_fsm::RefusedKind;
 use wdt_units::ToWrite;
 use words::folders_of;
 
@@ -51,7 +52,7 @@ fn main(rt: HostRuntime) -> io::Result<ExitCode> {
     let mut out = ToWrite::of(io::writer(&rt));
     let tooled = tool::tool(alloc, &words, &mut source, &mut out);
     // A line that standard error doesn't take changes nothing of the run.
-    let _ = explain(&rt, alloc, tooled.status, &source, out.fault());
+    let _ = explain(&rt, alloc, &tooled.status, &source, out.fault());
     Ok(ExitCode::from(tooled.status.code()))
 }
 
@@ -71,7 +72,7 @@ fn words_of(rt: &(impl Env + AllocGlobal), alloc: Global) -> Result<Vec<String>,
 fn explain<R: Files + AllocGlobal + Clone + Drop>(
     rt: &impl Eprint,
     alloc: Global,
-    status: Status,
+    status: &Status,
     source: &FolderSource<R>,
     out: Option<&io::Error>,
 ) -> io::Result<()> {
@@ -95,18 +96,18 @@ fn explain<R: Files + AllocGlobal + Clone + Drop>(
 fn explain_refusal<R: Files + AllocGlobal + Clone + Drop>(
     rt: &impl Eprint,
     alloc: Global,
-    kind: RefusedKind,
+    kind: &RefusedKind,
     source: &FolderSource<R>,
 ) -> io::Result<()> {
     let (at, why) = match kind {
         RefusedKind::BadPath { at } => (
-            at,
+            *at,
             "the path is longer than 1,024 bytes or otherwise not lawful",
         ),
-        RefusedKind::Reserved { at } => (at, "the path is one of the receiver's own files"),
-        RefusedKind::Twice { at } => (at, "the path is listed twice"),
+        RefusedKind::Reserved { at } => (*at, "the path is one of the receiver's own files"),
+        RefusedKind::Twice { at } => (*at, "the path is listed twice"),
         RefusedKind::TooLarge { at } => (
-            at,
+            *at,
             "the file has more than 2^40 bytes, or those up to it have more than 2^50",
         ),
         RefusedKind::TooMany { count } => {
@@ -114,6 +115,16 @@ fn explain_refusal<R: Files + AllocGlobal + Clone + Drop>(
         }
         RefusedKind::TooManyBlocks { count } => {
             return eprintln!(rt; "wdt: {count} blocks of 16777216 bytes, more than 1048576");
+        }
+        RefusedKind::Stale { path, .. } => {
+            let path = OneLine(path.text());
+            return eprintln!(rt; "wdt: the destination has another {path}");
+        }
+        RefusedKind::BadScript { line } => {
+            return eprintln!(rt; "wdt: line {line} of the script has no meaning");
+        }
+        RefusedKind::BadLog { at } => {
+            return eprintln!(rt; "wdt: the log has no meaning from byte {at} on");
         }
     };
     match source.path_at(alloc, at) {

@@ -8,9 +8,9 @@ ghost use Rattle.wdt_cli.specs.Failures.{refusal_of, unplanned_of, IsPlanFailure
 
 use crate::report::Report;
 use crate::session::{BLOCK, greet, transfer};
-use crate::status::RefusedKind;
 use std::alloc::Global;
 use wdt_discover::{PlanFail, plan};
+use wdt_sender_fsm::RefusedKind;
 use wdt_source::{Source, SourceFail};
 use wdt_tree::{Manifest, ManifestFail, Plain};
 
@@ -24,7 +24,7 @@ pub struct Rehearsed {
 }
 
 /// Why nothing landed.
-#[derive(Clone, Copy, Debug, PartialEq, Eq)]
+#[derive(Debug, Drop)]
 pub enum Failure {
     /// The source failed, and has counted a fault.
     Source,

@@ -1,9 +1,9 @@
 //! The lines of a run.
-ghost use Rattle.std.specs.Prelude.{◌≡◌, IfOk, string_bytes};
-ghost use Rattle.wdt_cli.specs.Lines.{done_text, refusal_line};
+ghost use Rattle.std.specs.Prelude.{◌≡◌, ◌++◌, IfOk, OnOk, codes, string_bytes};
+ghost use Rattle.wdt_cli.specs.Lines.{done_text, printed, refusal_line};
 
-use crate::status::RefusedKind;
 use std::alloc::{AllocError, Global};
+use wdt_sender_fsm::RefusedKind;
 
 /// What a run over one connection and in one session counts.
 #[derive(Clone, Copy, Debug, PartialEq, Eq)]
@@ -28,11 +28,12 @@ pub fn done_text(alloc: Global, report: &Report) -> Result<String, AllocError>
     Ok(text)
 }
 
-/// The last line of a run that refused its tree.
-pub fn refusal_line(alloc: Global, kind: RefusedKind) -> Result<String, AllocError>
-    ensures { IfOk result (λ line. string_bytes line ≡ refusal_line kind) }
+/// The last line of a run that is refused.
+pub fn refusal_line(alloc: Global, kind: &RefusedKind) -> Result<Vec<u8>, AllocError>
+    ensures { IfOk result (λ line. line.items ≡ refusal_line kind.now) }
 {
-    match kind {
+    let line = match kind {
+        RefusedKind::BadScript { line } => format!(in alloc; "refused: bad script line {line}\n"),
         RefusedKind::BadPath { at } => format!(in alloc; "refused: bad path {at}\n"),
         RefusedKind::Reserved { at } => format!(in alloc; "refused: reserved {at}\n"),
         RefusedKind::Twice { at } => format!(in alloc; "refused: twice {at}\n"),
@@ -41,5 +42,33 @@ pub fn refusal_line(alloc: Global, kind: RefusedKind) -> Result<String, AllocErr
         RefusedKind::TooManyBlocks { count } => format!(in alloc;
             "refused: too many blocks {count}\n"
         ),
+        RefusedKind::Stale { path, .. } => return stale_line(alloc, path.bytes()),
+        RefusedKind::BadLog { at } => format!(in alloc; "refused: bad log {at}\n"),
+    };
+    Ok(line?.into_bytes())
+}
+
+// The line of a run that is refused for a file of the destination.
+fn stale_line(alloc: Global, path: &[u8]) -> Result<Vec<u8>, AllocError>
+    ensures { IfOk result (λ line. line.items ≡ codes "refused: stale " ++ printed path.now ++ codes "\n") }
+{
+    let mut line = Vec::new(alloc);
+    line.extend_from_slice(b"refused: stale ")?;
+    push_printed(&mut line, path)?;
+    line.extend_from_slice(b"\n")?;
+    Ok(line)
+}
+
+// Appends a path on one line: a backslash is printed as two, and a line feed as a backslash and an n.
+fn push_printed(line: &mut Vec<u8>, path: &[u8]) -> Result<(), AllocError>
+    ensures { OnOk result (line.new.items ≡ line.old.items ++ printed path.now) }
+{
+    for byte in path {
+        match *byte {
+            b'\\' => line.extend_from_slice(b"\\\\")?,
+            b'\n' => line.extend_from_slice(b"\\n")?,
+            other => line.push(other)?,
+        }
     }
+    Ok(())
 }

@@ -8,9 +8,10 @@ ghost use Rattle.wdt_cli.specs.Causes.{IsToldRefused, IsRefusedFor, IsUnrefused,
 
 use crate::rehearse::{Failure, Rehearsed, rehearse};
 use crate::report::{done_text, refusal_line};
-use crate::status::{RefusedKind, Status, Tooled};
+use crate::status::{Status, Tooled};
 use crate::words::folder_of;
 use std::alloc::Global;
+use wdt_sender_fsm::RefusedKind;
 use wdt_source::Source;
 use wdt_units::Sink;
 
@@ -81,8 +82,8 @@ fn refuse<O: Sink>(alloc: Global, kind: RefusedKind, out: &mut O) -> Tooled
     ensures status { IsRefusalEnd kind result.status }
     ensures prints { Prints result.status (map shown result.landed.items) (O.faults out.old) (O.faults out.new) (O.written out.old) (O.written out.new) }
 {
-    match refusal_line(alloc, kind) {
-        Ok(line) => close(alloc, Status::Refused(kind), line.as_bytes(), out),
+    match refusal_line(alloc, &kind) {
+        Ok(line) => close(alloc, Status::Refused(kind), &line, out),
         Err(_) => nothing(alloc, Status::NoMemory),
     }
 }

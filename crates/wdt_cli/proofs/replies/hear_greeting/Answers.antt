@@ -1,4 +1,4 @@
-use Rattle.std.proofs.Common.{◌≡◌, ◌∙◌, sym, ap, refl, ℕ, List, arith, ◌⊎◌, inl, inr}
+use Rattle.std.proofs.Common.{◌≡◌, ◌∙◌, sym, ap, refl, arith, ◌⊎◌, inl, inr}
 use Rattle.wdt_codec.specs.declared.frames.Frame.{Frame}
 use Rattle.wdt_codec.specs.declared.frames.Mark.{Mark}
 use Rattle.wdt_codec.specs.declared.frames.Frame.TheVariants as frames
@@ -26,7 +26,7 @@ pub returns-else-mark-eq0-clause-taken : goal.returns-else-mark-eq0-clause-taken
 returns-else-mark-eq0-clause-taken c = λ rest spelled. first c.in-Greeting.mark c.else-mark-eq0.either (sym c.in-Greeting.is ∙ (c.in-Ok.ensures.taken greeting rest (fits, spelled)).0)
 
 pub returns-in_default : goal.returns-in_default
-returns-in_default c = record { taken = λ rest spelled. absurd (c.in_default.not-Greeting (record { lane = record { 0 = 0 }; count = 0 }) (c.in-Ok.ensures.taken greeting rest (fits, spelled)).0); owed = tt {0} }
+returns-in_default c = record { found = tt {0}; taken = λ rest spelled. absurd (c.in_default.not-Greeting (record { lane = record { 0 = 0 }; count = 0 }) (c.in-Ok.ensures.taken greeting rest (fits, spelled)).0); owed = tt {0} }
 
 pub returns-in-Err-clause-taken : goal.returns-in-Err-clause-taken
 returns-in-Err-clause-taken c = λ rest spelled. failed greeting (tt {0}) rest _ c.in-Err.fail (c.in-Err.ensures.taken greeting rest (fits, spelled))

@@ -3,7 +3,6 @@ use Rattle.wdt_units.specs.declared.failures.NoMemory.{NoMemory}
 use Rattle.wdt_units.specs.Have.{HaveFile}
 use Rattle.wdt_codec.specs.Frames.{spell}
 use Rattle.wdt_codec.specs.declared.frames.Frame.TheVariants.{Chunks}
-use Rattle.wdt_cli.specs.declared.receiver.Stage.{Stage}
 use Rattle.wdt_cli.specs.Replies.{greeting, said_at}
 use Rattle.wdt_cli.proofs.receiver.Receiver.answer.Goals as goal
 
