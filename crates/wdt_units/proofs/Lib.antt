@@ -3,3 +3,5 @@ pub mod PathBytes
 pub mod PathFill
 pub mod PathParts
 pub mod Utf8Scan
+pub mod BlockOrder
+pub mod BlockCounts

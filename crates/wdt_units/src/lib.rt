@@ -12,6 +12,7 @@
 mod blocks;
 mod failures;
 mod inputs;
+mod laws;
 mod limits;
 mod numbers;
 mod path;
@@ -21,6 +22,7 @@ mod sinks;
 pub use blocks::{Block, Header};
 pub use failures::{Failed, NoMemory};
 pub use inputs::{FromRead, Input, MemInput};
+pub use laws::rising_blocks_are_one_list;
 pub use limits::{MAX_BLOCK, MAX_FILE_SIZE, MAX_FILES, MAX_PATH, MAX_TOTAL, PIECE};
 pub use numbers::{Conn, Lane, LaneSet, Spot};
 pub use path::{Name, NameFail, is_reserved};
