@@ -1,13 +1,15 @@
 -- How often a block stands in a list: laws of counting.
-use Rattle.std.proofs.Common.{◌≡◌, ℕ, ◌+◌, true, false, cond, List, [], ◌∷◌, ◌++◌, take, drop, reverse, refl, sym, ap, ◌∙◌, subst, inl, inr, arith}
+use Rattle.std.proofs.Common.{get_or, length, zero, suc, ◌<◌, ◌≡◌, ℕ, ◌+◌, true, false, cond, List, [], ◌∷◌, ◌++◌, take, drop, reverse, refl, sym, ap, ◌∙◌, subst, inl, inr, arith}
 use Rattle.std.specs.List.{list_all, insert}
-use Rattle.std.specs.List.Sorted.{IsPermutation}
+use Rattle.std.specs.List.Sorted.{IsPermutation, IsSorted}
+use Rattle.std.specs.Ordering.{is_lt}
 use Rattle.std.proofs.lemmas.Bool.{and_parts, and_from, cases_Bool, cond-true, cond-false}
-use Rattle.std.proofs.lemmas.List.Sorted.{sum_by-IsPermutation, IsPermutation-reverse}
-use Rattle.std.proofs.lemmas.List.Sums.{sum_by-cons, sum_by-append, sum_by_push, sum_by-take-drop, sum_by-insert}
+use Rattle.std.proofs.lemmas.List.Sorted.{sum_by-IsPermutation, IsPermutation-reverse, ranks_by, sorted_far}
+use Rattle.std.proofs.lemmas.List.Sums.{sum_by-cons, sum_by-append, sum_by_push, sum_by-take-drop, sum_by-insert, AllPass-from_list_all, list_all-from_AllPass}
+use Rattle.std.proofs.lemmas.List.Folds.{list_all-append}
 use Rattle.wdt_units.specs.declared.blocks.Block.{Block}
-use Rattle.wdt_units.specs.Blocks.{precedes, is_same, are_rising, count_of, HaveSameBlocks, AreDistinct}
-use Rattle.wdt_units.proofs.BlockOrder.{one_block, same_itself, ordered, precedes_other, precedes_trans}
+use Rattle.wdt_units.specs.Blocks.{block_cmp, precedes, is_same, are_rising, count_of, HaveSameBlocks, AreDistinct}
+use Rattle.wdt_units.proofs.BlockOrder.{block_total, one_block, same_back, same_itself, ordered, precedes_other, precedes_trans, precedes_back}
 
 abbrev pub one_if_same : Block → Block → ℕ
 one_if_same b x = cond (is_same b x) 1 0
@@ -107,3 +109,47 @@ rising_once (x ∷ xs) (y ∷ ys) u v same =
 
     vs : (list_all (precedes y) ys ≡ true) × (are_rising ys ≡ true)
     vs = and_parts (list_all (precedes y) ys) (are_rising ys) v
+
+-- a block that a list doesn't have is none of it
+pub other_at : (b : Block) (xs : List Block) (k : ℕ) (d : Block) → count_of b xs ≡ 0 → k < length xs → is_same b (get_or xs k d) ≡ false
+other_at b [] k d none lt = absurd (omega arith)
+other_at b (x ∷ xs) zero d none lt = elim (cases_Bool (is_same b x)) [ inl s ↦ absurd (omega (arith, none, count_of-cons b x xs, one_if-true b x s)) | inr o ↦ o ]
+other_at b (x ∷ xs) (suc k) d none lt = other_at b xs k d (omega (arith, none, count_of-cons b x xs)) (omega arith)
+
+-- distinct blocks that are sorted rise
+pub rising_from_sorted : (xs : List Block) → IsSorted block_cmp xs → AreDistinct xs → are_rising xs ≡ true
+rising_from_sorted [] sorted once = refl
+rising_from_sorted (x ∷ xs) sorted once =
+    and_from (list_all (precedes x) xs) (are_rising xs) (list_all-from_AllPass (precedes x) xs behind) (rising_from_sorted xs tail (λ b. omega (arith, once b, count_of-cons b x xs)))
+  where
+    tail : IsSorted block_cmp xs
+    tail k d lo hi =
+        let e : suc k + 1 ≡ suc (k + 1) = omega arith in
+        subst (λ (n : ℕ). is_lt (block_cmp (get_or (x ∷ xs) n d) (get_or xs k d)) ≡ false) e (sorted (suc k) d (omega arith) (omega arith))
+
+    behind : (k : ℕ) (d : Block) → k < length xs → precedes x (get_or xs k d) ≡ true
+    behind k d lt =
+        precedes_back (get_or xs k d) x
+        (sorted_far (λ (a b : Block). is_lt (block_cmp a b)) (ranks_by block_total (λ (b : Block). b)) (x ∷ xs) sorted 0 (suc k) d (omega arith) (omega arith))
+        (same_back x (get_or xs k d) (other_at x xs k d (omega (arith, once x, count_of-cons x x xs, one_if-true x x (same_itself x))) lt))
+
+-- each block of a rising list comes before each later one
+pub rising_at : (xs : List Block) (i j : ℕ) (d : Block) → are_rising xs ≡ true → i < j → j < length xs → precedes (get_or xs i d) (get_or xs j d) ≡ true
+rising_at [] i j d up lt within = absurd (omega arith)
+rising_at (x ∷ xs) i zero d up lt within = absurd (omega arith)
+rising_at (x ∷ xs) zero (suc j) d up lt within =
+    AllPass-from_list_all (precedes x) xs ((and_parts (list_all (precedes x) xs) (are_rising xs) up).0) j d (omega arith)
+rising_at (x ∷ xs) (suc i) (suc j) d up lt within =
+    rising_at xs i j d ((and_parts (list_all (precedes x) xs) (are_rising xs) up).1) (omega arith) (omega arith)
+
+-- a block between rising blocks that come before it and rising blocks that come behind it
+pub rising_insert : (xs : List Block) (b : Block) (ys : List Block) → are_rising (xs ++ ys) ≡ true → list_all (λ (x : Block). precedes x b) xs ≡ true → list_all (precedes b) ys ≡ true
+    → are_rising (xs ++ b ∷ ys) ≡ true
+rising_insert [] b ys up before behind = and_from (list_all (precedes b) ys) (are_rising ys) behind up
+rising_insert (x ∷ xs) b ys up before behind =
+    let ups : (list_all (precedes x) (xs ++ ys) ≡ true) × (are_rising (xs ++ ys) ≡ true) = and_parts (list_all (precedes x) (xs ++ ys)) (are_rising (xs ++ ys)) up in
+    let befores : (precedes x b ≡ true) × (list_all (λ (z : Block). precedes z b) xs ≡ true) = and_parts (precedes x b) (list_all (λ (z : Block). precedes z b) xs) before in
+    let halves : (list_all (precedes x) xs ≡ true) × (list_all (precedes x) ys ≡ true) = and_parts (list_all (precedes x) xs) (list_all (precedes x) ys) (sym (list_all-append (precedes x) xs ys) ∙ ups.0) in
+    and_from (list_all (precedes x) (xs ++ b ∷ ys)) (are_rising (xs ++ b ∷ ys))
+    (list_all-append (precedes x) xs (b ∷ ys) ∙ and_from (list_all (precedes x) xs) (list_all (precedes x) (b ∷ ys)) halves.0 (and_from (precedes x b) (list_all (precedes x) ys) befores.0 halves.1))
+    (rising_insert xs b ys ups.1 befores.1 behind)

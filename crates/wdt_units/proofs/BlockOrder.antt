@@ -44,3 +44,6 @@ precedes_trans a b c h k = ap is_lt (block_total.trans a b c (less (block_cmp a 
 -- a block that doesn't come before another, and isn't the same, comes behind it
 pub precedes_back : (a b : Block) → precedes a b ≡ false → is_same a b ≡ false → precedes b a ≡ true
 precedes_back a b h k = elim (ordered a b) [ inl s ↦ absurd (true≢false (sym s ∙ k)) | inr o ↦ elim o [ inl p ↦ absurd (true≢false (sym p ∙ h)) | inr q ↦ q ] ]
+
+pub same_back : (a b : Block) → is_same a b ≡ false → is_same b a ≡ false
+same_back a b h = grind (arith, nat_tests)

@@ -1,0 +1,14 @@
+-- How a queue keeps its blocks: the greatest first, so that the least is taken from the end.
+use Rattle.std.specs.Prelude.{◌-◌, ◌≤◌, ◌<◌, ◌^◌, IsTrue, reverse, vec_len, vec_capacity}
+use Rattle.wdt_units.specs.Blocks.{are_rising}
+use Rattle.wdt_queue.specs.declared.queue.Queue.TheInside.{Inside}
+use Rattle.wdt_queue.specs.Waiting.{Waiting}
+
+abbrev pub seen : Inside → Waiting
+seen q = record { waiting = reverse q.blocks.items; room = q.most - vec_len q.blocks }
+
+pub record IsQueue (q : Inside) : Type 0 where
+  pub rising : IsTrue (are_rising (reverse q.blocks.items))
+  pub within : vec_len q.blocks ≤ q.most
+  pub room : q.most ≤ vec_capacity q.blocks
+  pub few : q.most < 2 ^ 31
