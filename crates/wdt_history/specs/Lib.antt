@@ -1,0 +1,4 @@
+pub mod Checks
+pub mod Claimed
+pub mod Inside
+pub mod Places

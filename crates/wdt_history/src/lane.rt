@@ -1,0 +1,202 @@
+//! The claims of one lane.
+ghost use Rattle.std.specs.Prelude.{◌≡◌, ℕ, ◌+◌, ◌<◌, ◌≤◌, ◌^◌, ◌++◌, length, drop, Option, None, OnOk, OnErr, IsTrue, take};
+ghost use Rattle.std.specs.Result.{result_err};
+ghost use Rattle.wdt_units.specs.Blocks.{are_rising, AreDistinct, HaveSameBlocks};
+ghost use Rattle.wdt_units.specs.LaneWords.{no_claims, claimed, sent, cut_to, closed_at, finished};
+ghost use Rattle.wdt_history.specs.Checks.{fault_of, goes_back};
+ghost use Rattle.wdt_history.specs.Claimed.{IsLane};
+ghost use Rattle.wdt_history.specs.Places.{place_at, place_in};
+
+use crate::check::CheckFail;
+use crate::place::Place;
+use std::alloc::Global;
+use std::marker::Model;
+use wdt_queue::Queue;
+use wdt_units::{Block, NoMemory};
+
+/// What a lane has claimed.
+#[derive(Debug, Drop)]
+pub struct LaneClaims {
+    /// The blocks in the order in which they were claimed.
+    kept: Vec<Block>,
+    /// How many of the first of them have surely landed.
+    sure: u32,
+    /// Whether the last of them is still being written.
+    held: bool,
+    /// The count that closed the lane.
+    closed: Option<u32>,
+}
+
+impl Model for LaneClaims {
+    ghost use Rattle.wdt_units.specs.LaneWords.{Claims};
+
+    ghost Value = { Claims };
+
+    ghost use Rattle.wdt_history.specs.Inside.{seen};
+
+    ghost view = { seen };
+}
+
+impl LaneClaims {
+    /// A lane that claimed nothing.
+    pub fn new(alloc: Global) -> LaneClaims
+        ensures { result ≡ no_claims }
+    {
+        LaneClaims {
+            kept: Vec::new(alloc),
+            sure: 0,
+            held: false,
+            closed: None,
+        }
+    }
+
+    /// The lane's blocks in the order in which they were claimed.
+    pub fn kept(&self) -> &[Block]
+        ensures { result.now ≡ self.now.kept }
+    {
+        &self.kept
+    }
+
+    /// How many of the first blocks have surely landed.
+    pub fn sure(&self) -> u32
+        ensures { result ≡ self.now.sure }
+    {
+        self.sure
+    }
+
+    /// Whether the last block is still being written.
+    pub fn holds(&self) -> bool
+        ensures { result ≡ self.now.held }
+    {
+        self.held
+    }
+
+    /// The count that closed the lane.
+    pub fn closed(&self) -> Option<u32>
+        ensures { result ≡ self.now.closed }
+    {
+        self.closed
+    }
+
+    /// Claims a block, which is written from now on.
+    pub fn claim(&mut self, block: Block) -> Result<(), NoMemory>
+        ensures claimed { OnOk result (self.new ≡ claimed block self.old) }
+        ensures unchanged { OnErr result (self.new ≡ self.old) }
+    {
+        if self.kept.push(block).is_err() {
+            return Err(NoMemory);
+        }
+        self.held = true;
+        Ok(())
+    }
+
+    /// The last block was written whole.
+    pub fn sent(&mut self)
+        ensures { self.new ≡ sent self.old }
+    {
+        self.held = false;
+    }
+
+    /// All blocks have landed.
+    pub fn finish(&mut self)
+        requires { IsLane self.old }
+        ensures { self.new ≡ finished self.old }
+    {
+        self.sure = self.kept.len() as u32;
+        self.held = false;
+    }
+
+    /// Whether the lane's first n blocks may be those that have landed.
+    pub fn check(&self, n: u32) -> Result<(), CheckFail>
+        requires { IsLane self.now }
+        ensures { result_err result ≡ fault_of self.now n }
+    {
+        if let Some(before) = self.closed {
+            return if n == before {
+                Ok(())
+            } else {
+                Err(CheckFail::Differs { n, before })
+            };
+        }
+        let (low, high) = (self.sure, self.kept.len() as u32);
+        if n < low || high < n {
+            return Err(CheckFail::BadCheckpoint { n, low, high });
+        }
+        Ok(())
+    }
+
+    /// Keeps the first n blocks, which have landed, puts the others back, and answers how many.
+    pub fn cut(&mut self, n: u32, queue: &mut Queue) -> u32
+        requires lawful { IsLane self.old }
+        requires within { n ≤ length self.old.kept }
+        requires room { length (drop n self.old.kept) ≤ queue.old.room }
+        requires absent { AreDistinct (queue.old.waiting ++ drop n self.old.kept) }
+        ensures cut { self.new ≡ cut_to n 0 self.old }
+        ensures count { result ≡ length (drop n self.old.kept) }
+        ensures blocks { HaveSameBlocks queue.new.waiting (queue.old.waiting ++ drop n self.old.kept) }
+        ensures rising { IsTrue (are_rising queue.old.waiting) → IsTrue (are_rising queue.new.waiting) }
+        ensures room { queue.new.room + result ≡ queue.old.room }
+    {
+        let back = &self.kept[n as usize..];
+        let count = back.len() as u32;
+        put_back(queue, back);
+        self.kept.truncate(n as usize);
+        self.sure = n;
+        self.held = false;
+        count
+    }
+
+    /// Keeps the first n blocks as `cut` does, and closes the lane.
+    pub fn close(&mut self, n: u32, queue: &mut Queue) -> u32
+        requires lawful { IsLane self.old }
+        requires within { n ≤ length self.old.kept }
+        requires room { length (drop n self.old.kept) ≤ queue.old.room }
+        requires absent { AreDistinct (queue.old.waiting ++ drop n self.old.kept) }
+        ensures closed { self.new ≡ closed_at n 0 self.old }
+        ensures count { result ≡ length (drop n self.old.kept) }
+        ensures blocks { HaveSameBlocks queue.new.waiting (queue.old.waiting ++ drop n self.old.kept) }
+        ensures rising { IsTrue (are_rising queue.old.waiting) → IsTrue (are_rising queue.new.waiting) }
+        ensures room { queue.new.room + result ≡ queue.old.room }
+    {
+        let count = self.cut(n, queue);
+        self.closed = Some(n);
+        count
+    }
+
+    /// The place of a block, if it stands in the lane's list.
+    pub fn place(&self, block: Block) -> Option<Place>
+        requires { IsLane self.now }
+        ensures { result ≡ place_in block self.now }
+    {
+        let index = self.kept.iter().position(|kept| block == *kept)?;
+        Some(self.place_at(index))
+    }
+
+    // The place of the block at an index of the list.
+    fn place_at(&self, index: usize) -> Place
+        requires { index < length self.now.kept }
+        ensures { result ≡ place_at self.now index }
+    {
+        if index < self.sure as usize {
+            return Place::Confirmed;
+        }
+        if self.held && index + 1 == self.kept.len() {
+            Place::Held
+        } else {
+            Place::Unconfirmed
+        }
+    }
+}
+
+// Puts blocks back into a queue that has room for them and none of them.
+fn put_back(queue: &mut Queue, blocks: &[Block])
+    requires room { length blocks.now ≤ queue.old.room }
+    requires absent { AreDistinct (queue.old.waiting ++ blocks.now) }
+    ensures blocks { HaveSameBlocks queue.new.waiting (queue.old.waiting ++ blocks.now) }
+    ensures rising { IsTrue (are_rising queue.old.waiting) → IsTrue (are_rising queue.new.waiting) }
+    ensures room { queue.new.room + length blocks.now ≡ queue.old.room }
+{
+    for block in blocks {
+        queue.put_back(*block);
+    }
+}

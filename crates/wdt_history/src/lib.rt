@@ -1,0 +1,19 @@
+//! What each lane of a sender has claimed, and where each block stands.
+//!
+//! A `History` has a list of blocks for each lane, in the order in which the lane claimed them. A
+//! checkpoint tells how many of them have landed: the local one when the lane connects again, the
+//! global one over another lane, for a lane that the receiver has closed. The blocks behind that
+//! count go back to the queue, and the others stay.
+//!
+//! No block stands in two lists, nor twice in one. So a block has one place: it is queued, held by
+//! the lane that writes it, written but unconfirmed, or confirmed.
+#![tactic(auto)]
+
+mod check;
+mod history;
+mod lane;
+mod place;
+
+pub use check::CheckFail;
+pub use history::History;
+pub use place::Place;
