@@ -1,5 +1,5 @@
 -- What the lanes of a sender have claimed together. A lane's number is its place in the list.
-use Rattle.std.specs.Prelude.{◌≡◌, ℕ, ◌≤◌, ◌<◌, ◌^◌, Bool, false, IsTrue, List, length, All, Option, IfSome, slice_index_or, slice_set, sum_by}
+use Rattle.std.specs.Prelude.{◌≡◌, ℕ, ◌≤◌, ◌<◌, ◌^◌, Bool, false, IsTrue, List, length, All, IfSome, slice_index_or, slice_set, sum_by}
 use Rattle.wdt_units.specs.declared.blocks.Block.{Block}
 use Rattle.wdt_units.specs.Blocks.{count_of}
 use Rattle.wdt_units.specs.LaneWords.{Claims, no_claims}

@@ -54,7 +54,7 @@ impl History {
     /// nothing.
     pub fn claim(&mut self, lane: Lane, block: Block) -> Result<(), NoMemory>
         requires lane { lane.0 < length self.old }
-        requires open { (lane_at self.old lane.0).closed ≡ None }
+        requires still_open { (lane_at self.old lane.0).closed ≡ None }
         requires few { length (lane_at self.old lane.0).kept < 2 ^ 31 }
         requires absent { count_kept block self.old ≡ 0 }
         ensures claimed { OnOk result (self.new ≡ with_lane self.old lane.0 (claimed block (lane_at self.old lane.0))) }
@@ -76,7 +76,7 @@ impl History {
     /// below the lane's sure count or above the length of its list. An error changes nothing.
     pub fn local(&mut self, lane: Lane, n: u32, queue: &mut Queue) -> Result<u32, CheckFail>
         requires lane { lane.0 < length self.old }
-        requires open { (lane_at self.old lane.0).closed ≡ None }
+        requires still_open { (lane_at self.old lane.0).closed ≡ None }
         requires room { length (goes_back (lane_at self.old lane.0) n) ≤ queue.old.room }
         requires absent { AreDistinct (queue.old.waiting ++ goes_back (lane_at self.old lane.0) n) }
         ensures fault { result_err result ≡ fault_of (lane_at self.old lane.0) n }
@@ -126,7 +126,7 @@ impl History {
     pub fn finish(&mut self)
         ensures { self.new ≡ map finished self.old }
     {
-        for lane in &mut self.lanes {
+        for lane in self.lanes.iter_mut() {
             lane.finish();
         }
     }

@@ -1,9 +1,9 @@
 //! The claims of one lane.
-ghost use Rattle.std.specs.Prelude.{◌≡◌, ℕ, ◌+◌, ◌<◌, ◌≤◌, ◌^◌, ◌++◌, length, drop, Option, None, OnOk, OnErr, IsTrue, take};
+ghost use Rattle.std.specs.Prelude.{◌≡◌, ℕ, ◌+◌, ◌<◌, ◌≤◌, ◌^◌, ◌++◌, length, drop, position, None, OnOk, OnErr, IsTrue};
 ghost use Rattle.std.specs.Result.{result_err};
-ghost use Rattle.wdt_units.specs.Blocks.{are_rising, AreDistinct, HaveSameBlocks};
+ghost use Rattle.wdt_units.specs.Blocks.{are_rising, is_same, AreDistinct, HaveSameBlocks};
 ghost use Rattle.wdt_units.specs.LaneWords.{no_claims, claimed, sent, cut_to, closed_at, finished};
-ghost use Rattle.wdt_history.specs.Checks.{fault_of, goes_back};
+ghost use Rattle.wdt_history.specs.Checks.{fault_of};
 ghost use Rattle.wdt_history.specs.Claimed.{IsLane};
 ghost use Rattle.wdt_history.specs.Places.{place_at, place_in};
 
@@ -168,8 +168,10 @@ impl LaneClaims {
         requires { IsLane self.now }
         ensures { result ≡ place_in block self.now }
     {
-        let index = self.kept.iter().position(|kept| block == *kept)?;
-        Some(self.place_at(index))
+        match index_of(&self.kept, block) {
+            Some(index) => Some(self.place_at(index)),
+            None => None,
+        }
     }
 
     // The place of the block at an index of the list.
@@ -186,6 +188,13 @@ impl LaneClaims {
             Place::Unconfirmed
         }
     }
+}
+
+// The index of a block in a list.
+fn index_of(blocks: &[Block], block: Block) -> Option<usize>
+    ensures { result ≡ position (is_same block) blocks.now }
+{
+    blocks.iter().position(|other| block == *other)
 }
 
 // Puts blocks back into a queue that has room for them and none of them.

@@ -1,0 +1,70 @@
+-- Checkpoints: what they keep, and what the finish makes of a list of lanes.
+use Rattle.std.proofs.Common.{◌≡◌, ℕ, ◌+◌, ◌<◌, ◌≤◌, false, List, [], ◌∷◌, ◌++◌, length, get_or, take, drop, map, set, Option, Some, None, is_some, refl, sym, ap, ◌∙◌, arith}
+use Rattle.std.proofs.lemmas.Bool.Decides.{nat_tests}
+use Rattle.std.proofs.lemmas.List.{append_assoc, append-nil, drop_all, take_all, take_at, drop_more, get_or_at, length-map, length-take-le, map_more, set_at}
+use Rattle.wdt_units.specs.declared.blocks.Block.{Block}
+use Rattle.wdt_units.specs.Blocks.{count_of, HaveSameBlocks}
+use Rattle.wdt_units.specs.LaneWords.{Claims, cut_to, closed_at, finished}
+use Rattle.wdt_units.proofs.BlockCounts.{count_of-append, count_of-parts}
+use Rattle.wdt_history.specs.Checks.{fault_by, fault_of, open_fault}
+use Rattle.wdt_history.specs.Claimed.{lane_at, with_lane, count_kept, IsLane, AreLanes}
+use Rattle.wdt_history.proofs.Keeps.{count_kept-with, is_at, lane_closed, lane_cut, lanes_with_fewer}
+
+-- a count that isn't refused is within the list of an open lane
+pub within_list : (s : Claims) (n : ℕ) → s.closed ≡ None → None ≡ fault_of s n → n ≤ length s.kept
+within_list s n unclosed fine =
+    let e : None ≡ open_fault s n = fine ∙ ap (λ (o : Option ℕ). fault_by o s n) unclosed in
+    grind (arith, nat_tests)
+
+pub none_of : (o : Option ℕ) → is_some o ≡ false → o ≡ None
+none_of None h = refl
+none_of (Some n) h = cc
+
+-- a lane that keeps a front of its list
+pub front_keeps : (lanes : List Claims) (l n : ℕ) (s : Claims) → AreLanes lanes → l < length lanes → IsLane s → s.kept ≡ take n (lane_at lanes l).kept → AreLanes (with_lane lanes l s)
+front_keeps lanes l n s are lt is e =
+    lanes_with_fewer lanes l s are lt is (λ b. omega (arith, ap (count_of b) e, count_of-parts b (lane_at lanes l).kept n))
+
+pub cut_keeps : (lanes : List Claims) (l n : ℕ) → AreLanes lanes → l < length lanes → (lane_at lanes l).closed ≡ None → None ≡ fault_of (lane_at lanes l) n → AreLanes (with_lane lanes l (cut_to n 0 (lane_at lanes l)))
+cut_keeps lanes l n are lt unclosed fine =
+    front_keeps lanes l n (cut_to n 0 (lane_at lanes l)) are lt (lane_cut n (lane_at lanes l) (is_at lanes l are lt) unclosed (within_list (lane_at lanes l) n unclosed fine)) refl
+
+pub close_keeps : (lanes : List Claims) (l n : ℕ) → AreLanes lanes → l < length lanes → (lane_at lanes l).closed ≡ None → None ≡ fault_of (lane_at lanes l) n → AreLanes (with_lane lanes l (closed_at n 0 (lane_at lanes l)))
+close_keeps lanes l n are lt unclosed fine =
+    front_keeps lanes l n (closed_at n 0 (lane_at lanes l)) are lt (lane_closed n (lane_at lanes l) (is_at lanes l are lt) (within_list (lane_at lanes l) n unclosed fine)) refl
+
+-- each block stands as often in the queue and the lists together as before
+pub conserved : (lanes : List Claims) (l n : ℕ) (s : Claims) (old new : List Block) → l < length lanes → s.kept ≡ take n (lane_at lanes l).kept → HaveSameBlocks new (old ++ drop n (lane_at lanes l).kept)
+    → (b : Block) → count_of b new + count_kept b (with_lane lanes l s) ≡ count_of b old + count_kept b lanes
+conserved lanes l n s old new lt e same b =
+    omega (
+      arith,
+      same b,
+      ap (count_of b) e,
+      count_of-append b old (drop n (lane_at lanes l).kept),
+      count_of-parts b (lane_at lanes l).kept n,
+      count_kept-with b lanes l s lt,
+    )
+
+-- ---- the finish, lane after lane
+
+pub next_lane : (lanes : List Claims) (i : ℕ) (d : Claims) → i < length lanes → get_or (map finished (take i lanes) ++ drop i lanes) i d ≡ get_or lanes i d
+next_lane lanes i d lt =
+    ap (λ (rest : List Claims). get_or (map finished (take i lanes) ++ rest) i d) (drop_more lanes i d lt)
+    ∙ get_or_at (map finished (take i lanes)) (get_or lanes i d) (drop (i + 1) lanes) d i (omega (arith, length-map (take i lanes) finished, length-take-le i lanes))
+
+pub finish_more : (lanes : List Claims) (i : ℕ) (d : Claims) → i < length lanes → set (map finished (take i lanes) ++ drop i lanes) i (finished (get_or lanes i d)) ≡ map finished (take (i + 1) lanes) ++ drop (i + 1) lanes
+finish_more lanes i d lt =
+    ap (λ (rest : List Claims). set (map finished (take i lanes) ++ rest) i (finished (get_or lanes i d))) (drop_more lanes i d lt)
+    ∙ set_at (map finished (take i lanes)) (get_or lanes i d) (drop (i + 1) lanes) (finished (get_or lanes i d)) i (omega (arith, length-map (take i lanes) finished, length-take-le i lanes))
+    ∙ sym (append_assoc (map finished (take i lanes)) (finished (get_or lanes i d) ∷ []) (drop (i + 1) lanes))
+    ∙ ap (λ (front : List Claims). front ++ drop (i + 1) lanes) (sym (map_more finished lanes i d lt))
+
+-- all lanes are finished, and nothing stands behind them
+pub finished_all : (lanes now rest : List Claims) (i n : ℕ) → now ≡ map finished (take i lanes) ++ drop i lanes → length lanes ≤ i → n ≡ length now → take n (now ++ rest) ≡ map finished lanes
+finished_all lanes now rest i n e all whole =
+    take_at now rest n (sym whole)
+    ∙ e
+    ∙ ap (λ (xs : List Claims). map finished xs ++ drop i lanes) (take_all i lanes all)
+    ∙ ap (λ (xs : List Claims). map finished lanes ++ xs) (drop_all i lanes all)
+    ∙ append-nil (map finished lanes)
