@@ -1,7 +1,7 @@
+pub mod BlockCounts
+pub mod BlockOrder
 pub mod Lawful
 pub mod PathBytes
 pub mod PathFill
 pub mod PathParts
 pub mod Utf8Scan
-pub mod BlockOrder
-pub mod BlockCounts

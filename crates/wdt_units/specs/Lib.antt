@@ -3,6 +3,7 @@ pub mod Counts
 pub mod Have
 pub mod Inputs
 pub mod LaneWords
+pub mod Lanes
 pub mod Memory
 pub mod Path
 pub mod Scan

@@ -1,7 +1,8 @@
 //! The words that every crate of wdt shares.
 //!
-//! Paths (`Name`), the numbers of lanes, connections and blocks, the limits of a transfer, and the
-//! two narrow traits by which text comes in (`Input`) and goes out (`Sink`).
+//! Paths (`Name`), the numbers of lanes, connections and blocks, the limits of a transfer, the two
+//! narrow traits by which text comes in (`Input`) and goes out (`Sink`), and the trait of state that
+//! lanes share (`Machine`).
 //!
 //! Each object from outside counts its faults by a number that never falls. Code that is generic
 //! over such a trait can't raise it, so "this failure only where the count rose" refuses a body that
@@ -14,6 +15,7 @@ mod failures;
 mod inputs;
 mod laws;
 mod limits;
+mod machine;
 mod numbers;
 mod path;
 mod scan;
@@ -24,6 +26,7 @@ pub use failures::{Failed, NoMemory};
 pub use inputs::{FromRead, Input, MemInput};
 pub use laws::rising_blocks_are_one_list;
 pub use limits::{MAX_BLOCK, MAX_FILE_SIZE, MAX_FILES, MAX_PATH, MAX_TOTAL, PIECE};
+pub use machine::Machine;
 pub use numbers::{Conn, Lane, LaneSet, Spot};
 pub use path::{Name, NameFail, is_reserved};
 pub use scan::{PathScan, scan_on};

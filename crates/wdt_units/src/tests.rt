@@ -1,6 +1,8 @@
 //! What no clause says: worked paths, which calls fail, and that each call succeeds where there is
 //! memory.
-use crate::{Failed, Input, MemInput, MemSink, Name, NameFail, Sink};
+ghost use Rattle.wdt_units.specs.Lanes.{Below};
+
+use crate::{Failed, Input, Lane, Machine, MemInput, MemSink, Name, NameFail, Sink};
 use std::test::Fail;
 
 #[test]
@@ -43,5 +45,71 @@ fn reads_and_writes(rt: HostRuntime) -> Result<(), Fail> {
         assert_eq!(rt; sink.put(&piece), put);
     }
     assert_eq!(rt; sink.bytes(), b"hellol".as_slice());
+    Ok(())
+}
+
+// A machine that writes down its turns.
+#[derive(Drop)]
+struct Recorder {
+    turns: Vec<(u8, u64)>,
+}
+
+impl Machine for Recorder {
+    ghost use Rattle.std.specs.Prelude.{◌≡◌, [], ◌∷◌, length, Some, None};
+    ghost use Rattle.wdt_units.specs.Lanes.{few_loose};
+
+    type Put = u64;
+
+    type Act = u64;
+
+    type Entry = (u8, u64);
+
+    type Stand = ();
+
+    ghost lanes = { λ _. None };
+
+    ghost history = { λ s. s.turns.items };
+
+    ghost lane_of = { λ e. Some e.0 };
+
+    ghost stand = { λ _ _. tt };
+
+    ghost legal = { λ _. Unit {0} };
+
+    ghost turned = { λ lane put h _ act more _. (more ≡ (lane, put) ∷ []) × (act ≡ length h) };
+
+    ghost counted = { λ s. length s.turns.items };
+
+    ghost one_loose = { λ h _. few_loose (λ e. e.0) h };
+
+    fn turn(&mut self, lane: Lane, put: u64) -> Result<u64, u64> {
+        let at = self.turns.len();
+        match self.turns.push((lane.0, put)) {
+            Ok(()) => Ok(at as u64),
+            Err(_) => Err(put),
+        }
+    }
+
+    fn count(&self) -> u64 {
+        self.turns.len() as u64
+    }
+}
+
+// Makes one turn of each of two lanes, and answers the acts.
+fn two_turns<M: Machine<Put = u64, Act = u64>>(machine: &mut M) -> (u64, u64)
+    requires { Below (M.lanes machine.old) 1 }
+{
+    let first = machine.turn(Lane(1), 7).unwrap_or(0);
+    let second = machine.turn(Lane(0), 9).unwrap_or(0);
+    (first, second)
+}
+
+#[test]
+fn a_machine_takes_turns(rt: HostRuntime) -> Result<(), Fail> {
+    let mut recorder = Recorder {
+        turns: Vec::new(rt.alloc()),
+    };
+    assert_eq!(rt; two_turns(&mut recorder), (0, 1));
+    assert_eq!(rt; recorder.count(), 2);
     Ok(())
 }
