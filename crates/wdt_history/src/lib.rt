@@ -12,8 +12,10 @@
 mod check;
 mod history;
 mod lane;
+mod laws;
 mod place;
 
 pub use check::CheckFail;
 pub use history::History;
+pub use laws::{a_listed_block_has_the_place_of_its_index, a_queued_block_is_in_no_list};
 pub use place::Place;

@@ -1,0 +1,5 @@
+use Rattle.wdt_history.proofs.Found.{queued_where}
+use Rattle.wdt_history.proofs.laws.a_queued_block_is_in_no_list.Goals as goal
+
+pub returns : goal.returns
+returns c = queued_where
