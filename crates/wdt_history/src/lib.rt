@@ -19,3 +19,6 @@ pub use check::CheckFail;
 pub use history::History;
 pub use laws::{a_listed_block_has_the_place_of_its_index, a_queued_block_is_in_no_list};
 pub use place::Place;
+
+#[cfg(test)]
+mod tests;
