@@ -1,4 +1,5 @@
 pub mod Back
 pub mod Found
 pub mod Keeps
+pub mod Standing
 pub mod Turns

@@ -7,7 +7,7 @@ use Rattle.wdt_units.specs.Blocks.{count_of, HaveSameBlocks}
 use Rattle.wdt_units.specs.LaneWords.{Claims, cut_to, closed_at, finished}
 use Rattle.wdt_units.proofs.BlockCounts.{count_of-append, count_of-parts}
 use Rattle.wdt_history.specs.Checks.{fault_by, fault_of, open_fault}
-use Rattle.wdt_history.specs.Claimed.{lane_at, with_lane, count_kept, IsLane, AreLanes}
+use Rattle.wdt_history.specs.Claimed.{lane_at, with_lane, kept_of, IsLane, AreLanes}
 use Rattle.wdt_history.proofs.Keeps.{count_kept-with, is_at, lane_closed, lane_cut, lanes_with_fewer}
 
 -- a count that isn't refused is within the list of an open lane
@@ -33,15 +33,17 @@ pub close_keeps : (lanes : List Claims) (l n : ℕ) → AreLanes lanes → l < l
 close_keeps lanes l n are lt unclosed fine =
     front_keeps lanes l n (closed_at n 0 (lane_at lanes l)) are lt (lane_closed n (lane_at lanes l) (is_at lanes l are lt) (within_list (lane_at lanes l) n unclosed fine)) refl
 
--- each block stands as often in the queue and the lists together as before
+-- the queue and the lists have together the blocks that they had
 pub conserved : (lanes : List Claims) (l n : ℕ) (s : Claims) (old new : List Block) → l < length lanes → s.kept ≡ take n (lane_at lanes l).kept → HaveSameBlocks new (old ++ drop n (lane_at lanes l).kept)
-    → (b : Block) → count_of b new + count_kept b (with_lane lanes l s) ≡ count_of b old + count_kept b lanes
+    → HaveSameBlocks (new ++ kept_of (with_lane lanes l s)) (old ++ kept_of lanes)
 conserved lanes l n s old new lt e same b =
     omega (
       arith,
       same b,
       ap (count_of b) e,
       count_of-append b old (drop n (lane_at lanes l).kept),
+      count_of-append b new (kept_of (with_lane lanes l s)),
+      count_of-append b old (kept_of lanes),
       count_of-parts b (lane_at lanes l).kept n,
       count_kept-with b lanes l s lt,
     )

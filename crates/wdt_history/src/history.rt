@@ -1,11 +1,10 @@
 //! The claims of all lanes.
-ghost use Rattle.std.specs.Prelude.{◌≡◌, ℕ, ◌+◌, ◌<◌, ◌≤◌, ◌^◌, ◌++◌, List, length, map, replicate, count_by, Option, None, IsSome, is_some, OnOk, OnErr, IfOk, IsTrue};
+ghost use Rattle.std.specs.Prelude.{◌≡◌, ℕ, ◌+◌, ◌<◌, ◌≤◌, ◌^◌, ◌++◌, List, length, map, replicate, Option, None, IsSome, is_some, OnOk, OnErr, IfOk, IsTrue};
 ghost use Rattle.std.specs.Result.{result_err};
-ghost use Rattle.wdt_units.specs.declared.blocks.Block.{Block as PlainBlock};
 ghost use Rattle.wdt_units.specs.Blocks.{are_rising, count_of, AreDistinct, HaveSameBlocks};
 ghost use Rattle.wdt_units.specs.LaneWords.{Claims, no_claims, claimed, sent, cut_to, closed_at, finished};
 ghost use Rattle.wdt_history.specs.Checks.{fault_of, goes_back};
-ghost use Rattle.wdt_history.specs.Claimed.{lane_at, with_lane, count_kept, is_held, AreLanes};
+ghost use Rattle.wdt_history.specs.Claimed.{lane_at, with_lane, holding, kept_of, AreLanes};
 ghost use Rattle.wdt_history.specs.Places.{place_of};
 
 use crate::check::CheckFail;
@@ -56,7 +55,7 @@ impl History {
         requires lane { lane.0 < length self.old }
         requires still_open { (lane_at self.old lane.0).closed ≡ None }
         requires few { length (lane_at self.old lane.0).kept < 2 ^ 31 }
-        requires absent { count_kept block self.old ≡ 0 }
+        requires absent { count_of block (kept_of self.old) ≡ 0 }
         ensures claimed { OnOk result (self.new ≡ with_lane self.old lane.0 (claimed block (lane_at self.old lane.0))) }
         ensures unchanged { OnErr result (self.new ≡ self.old) }
     {
@@ -87,8 +86,8 @@ impl History {
         ensures room { IfOk result (λ count. queue.new.room + count ≡ queue.old.room) }
         ensures unchanged { OnErr result ((self.new ≡ self.old) × (queue.new ≡ queue.old)) }
 
-        // Each block stands as often in the queue and the lists together as before.
-        ensures kept { (block : PlainBlock) → count_of block queue.new.waiting + count_kept block self.new ≡ count_of block queue.old.waiting + count_kept block self.old }
+        // The queue and the lists have together the blocks that they had.
+        ensures kept { HaveSameBlocks (queue.new.waiting ++ kept_of self.new) (queue.old.waiting ++ kept_of self.old) }
     {
         let claims = &mut self.lanes[lane.0 as usize];
         claims.check(n)?;
@@ -111,8 +110,8 @@ impl History {
         ensures room { IfOk result (λ count. queue.new.room + count ≡ queue.old.room) }
         ensures unchanged { OnErr result ((self.new ≡ self.old) × (queue.new ≡ queue.old)) }
 
-        // Each block stands as often in the queue and the lists together as before.
-        ensures kept { (block : PlainBlock) → count_of block queue.new.waiting + count_kept block self.new ≡ count_of block queue.old.waiting + count_kept block self.old }
+        // The queue and the lists have together the blocks that they had.
+        ensures kept { HaveSameBlocks (queue.new.waiting ++ kept_of self.new) (queue.old.waiting ++ kept_of self.old) }
     {
         let claims = &mut self.lanes[lane.0 as usize];
         claims.check(n)?;
@@ -158,14 +157,14 @@ impl History {
 
     /// How many lanes have a block that is still being written.
     pub fn holding(&self) -> u32
-        ensures { result ≡ count_by is_held self.now }
+        ensures { result ≡ holding self.now }
     {
         self.lanes.iter().filter(|lane| lane.holds()).count() as u32
     }
 
     /// Where a block stands.
     pub fn place(&self, block: Block) -> Place
-        ensures { result ≡ place_of block self.now }
+        ensures { result ≡ place_of self.now block }
     {
         for lane in &self.lanes {
             if let Some(place) = lane.place(block) {

@@ -165,7 +165,6 @@ impl LaneClaims {
 
     /// The place of a block, if it stands in the lane's list.
     pub fn place(&self, block: Block) -> Option<Place>
-        requires { IsLane self.now }
         ensures { result ≡ place_in block self.now }
     {
         match index_of(&self.kept, block) {

@@ -4,7 +4,7 @@ use Rattle.wdt_units.specs.Blocks.{count_of}
 use Rattle.wdt_units.specs.LaneWords.{Claims, claimed, no_claims, sent}
 use Rattle.wdt_units.proofs.BlockCounts.{count_of-append, count_of-nil}
 use Rattle.wdt_history.specs.Checks.{goes_back}
-use Rattle.wdt_history.specs.Claimed.{count_kept, lane_at, with_lane}
+use Rattle.wdt_history.specs.Claimed.{kept_of, lane_at, with_lane}
 use Rattle.wdt_history.proofs.Keeps.{count_kept-none}
 use Rattle.wdt_history.proofs.tests.a_block_comes_home.Goals as goal
 
@@ -18,7 +18,7 @@ pub of-requires-clause-distinct : goal.of-requires-clause-distinct
 of-requires-clause-distinct g c = λ b. omega (arith, ap (count_of b) c.new.ensures.items, count_of-nil b)
 
 pub claim-requires-clause-absent : goal.claim-requires-clause-absent
-claim-requires-clause-absent g c = ap (count_kept _) c.in_ok-history.ensures ∙ count_kept-none _ 2
+claim-requires-clause-absent g c = ap (λ (lanes : List Claims). count_of _ (kept_of lanes)) c.in_ok-history.ensures ∙ count_kept-none _ 2
 
 pub global-told-requires-clause-absent : goal.global-told-requires-clause-absent
 global-told-requires-clause-absent g c = λ b.

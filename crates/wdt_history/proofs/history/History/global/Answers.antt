@@ -1,8 +1,8 @@
-use Rattle.std.proofs.Common.{◌≡◌, ◌+◌, List, None, is_some, get_or, set, sym, ap, ◌∙◌, subst, drop, ◌++◌}
+use Rattle.std.proofs.Common.{◌≡◌, List, None, is_some, get_or, set, sym, ap, ◌∙◌, subst, drop, ◌++◌}
 use Rattle.wdt_units.specs.Blocks.{count_of, HaveSameBlocks}
 use Rattle.wdt_units.specs.LaneWords.{Claims, closed_at}
 use Rattle.wdt_history.specs.Checks.{fault_of}
-use Rattle.wdt_history.specs.Claimed.{lane_at, count_kept, AreLanes}
+use Rattle.wdt_history.specs.Claimed.{lane_at, kept_of, AreLanes}
 use Rattle.wdt_history.proofs.Keeps.{read_at}
 use Rattle.wdt_history.proofs.Turns.{conserved, close_keeps, none_of}
 use Rattle.wdt_history.proofs.history.History.global.Goals as goal
@@ -30,6 +30,6 @@ invariant_of-self-2 c =
 
 pub returns-clause-kept : goal.returns-clause-kept
 returns-clause-kept c b =
-    ap (λ (ls : List Claims). count_of b c.close.new.queue.waiting + count_kept b (set ls c.args.lane.0 c.close.new.self)) c.self.view_is
+    ap (λ (ls : List Claims). count_of b (c.close.new.queue.waiting ++ kept_of (set ls c.args.lane.0 c.close.new.self))) c.self.view_is
     ∙ conserved c.args.self.now c.args.lane.0 c.args.n c.close.new.self c.args.queue.now.waiting c.close.new.queue.waiting c.requires.lane (ap (λ (s : Claims). s.kept) (is_closed c))
     (subst (λ (s : Claims). HaveSameBlocks c.close.new.queue.waiting (c.args.queue.now.waiting ++ drop c.args.n s.kept)) (here c) c.close.ensures.blocks) b

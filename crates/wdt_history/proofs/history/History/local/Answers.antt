@@ -1,8 +1,8 @@
-use Rattle.std.proofs.Common.{◌≡◌, ◌+◌, List, None, get_or, set, sym, ap, ◌∙◌, subst, drop, ◌++◌}
+use Rattle.std.proofs.Common.{◌≡◌, List, None, get_or, set, sym, ap, ◌∙◌, subst, drop, ◌++◌}
 use Rattle.wdt_units.specs.Blocks.{count_of, HaveSameBlocks}
 use Rattle.wdt_units.specs.LaneWords.{Claims, cut_to}
 use Rattle.wdt_history.specs.Checks.{fault_of}
-use Rattle.wdt_history.specs.Claimed.{lane_at, count_kept, AreLanes}
+use Rattle.wdt_history.specs.Claimed.{lane_at, kept_of, AreLanes}
 use Rattle.wdt_history.proofs.Keeps.{read_at}
 use Rattle.wdt_history.proofs.Turns.{conserved, cut_keeps}
 use Rattle.wdt_history.proofs.history.History.local.Goals as goal
@@ -25,6 +25,6 @@ invariant_of-self-2 c =
 
 pub returns-clause-kept : goal.returns-clause-kept
 returns-clause-kept c b =
-    ap (λ (ls : List Claims). count_of b c.cut.new.queue.waiting + count_kept b (set ls c.args.lane.0 c.cut.new.self)) c.self.view_is
+    ap (λ (ls : List Claims). count_of b (c.cut.new.queue.waiting ++ kept_of (set ls c.args.lane.0 c.cut.new.self))) c.self.view_is
     ∙ conserved c.args.self.now c.args.lane.0 c.args.n c.cut.new.self c.args.queue.now.waiting c.cut.new.queue.waiting c.requires.lane (ap (λ (s : Claims). s.kept) (is_cut c))
     (subst (λ (s : Claims). HaveSameBlocks c.cut.new.queue.waiting (c.args.queue.now.waiting ++ drop c.args.n s.kept)) (here c) c.cut.ensures.blocks) b
