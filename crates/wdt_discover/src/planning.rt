@@ -2,6 +2,7 @@
 ghost use Rattle.std.specs.Prelude.{◌≡◌, ◌≢◌, ◌≤◌, None, Some, length, IfErr, IfOk, OnOk, IsTrue};
 ghost use Rattle.wdt_tree.specs.Rest.{IsRest};
 ghost use Rattle.wdt_ranges.specs.Files.{is_in_order};
+ghost use Rattle.wdt_rest.specs.RestOf.{rest_of};
 ghost use Rattle.wdt_discover.specs.declared.fail.PlanFail.TheVariants.{NoMemory as OutOfMemory};
 ghost use Rattle.wdt_discover.specs.Plan.{refusal};
 
@@ -29,6 +30,7 @@ pub fn plan(
     requires order { IsTrue (is_in_order have.now) }
     requires block { 1 ≤ block }
     ensures rest { IfOk result (λ blocks. IsRest manifest.now have.now block blocks.items) }
+    ensures list { IfOk result (λ blocks. blocks.items ≡ rest_of manifest.now have.now block) }
     ensures few { IfOk result (λ blocks. length blocks.items ≤ 1048576) }
     ensures accepted { OnOk result (refusal manifest.now have.now block ≡ None) }
     ensures refused { IfErr result (λ e. e ≢ OutOfMemory → refusal manifest.now have.now block ≡ Some e) }

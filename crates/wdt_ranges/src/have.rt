@@ -1,5 +1,5 @@
 //! What a destination has of a tree.
-ghost use Rattle.std.specs.Prelude.{◌≡◌, ◌^◌, ◌<◌, [], map, vec_len, IfOk};
+ghost use Rattle.std.specs.Prelude.{◌≡◌, ◌^◌, ◌<◌, [], length, map, vec_len, IfOk};
 ghost use Rattle.wdt_units.specs.Tree.{is_before};
 ghost use Rattle.wdt_ranges.specs.Files.{have_file, is_in_order};
 
@@ -27,7 +27,7 @@ pub struct Have {
 }
 
 impl Model for Have {
-    ghost use Rattle.std.specs.Prelude.{List, map};
+    ghost use Rattle.std.specs.Prelude.{◌<◌, ◌^◌, List, map, vec_len};
     ghost use Rattle.wdt_units.specs.Have.{HaveFile};
     ghost use Rattle.wdt_ranges.specs.Files.{have_file};
 
@@ -35,7 +35,7 @@ impl Model for Have {
 
     ghost view = { λ h. map have_file h.files.items };
 
-    ghost invariant = { λ _. Unit {0} };
+    ghost invariant = { λ h. vec_len h.files < 2 ^ 32 };
 }
 
 impl FileHave {
@@ -70,8 +70,10 @@ impl Have {
         Have { files }
     }
 
+    /// The files, fewer than 2^32.
     pub fn files(&self) -> &[FileHave]
-        ensures { map have_file result.now ≡ self.now }
+        ensures value { map have_file result.now ≡ self.now }
+        ensures few { length result.now < 2 ^ 32 }
     {
         &self.files
     }

@@ -1,5 +1,6 @@
 //! Lawful paths.
-ghost use Rattle.std.specs.Prelude.{◌≡◌, ◌↔◌, false, IfOk, OnOk, IsTrue, IsErrOf};
+ghost use Rattle.std.specs.Prelude.{◌≡◌, ◌↔◌, ◌≤◌, false, [], string_bytes, IfOk, OnOk, IsTrue, IsErrOf};
+ghost use Rattle.std.specs.String.{string_capacity};
 ghost use Rattle.wdt_units.specs.declared.path.NameFail.TheVariants.{NoMemory as OutOfMemory};
 ghost use Rattle.wdt_units.specs.Path.{is_lawful, is_reserved};
 
@@ -96,6 +97,17 @@ impl Name {
             Ok(text) => Ok(Name { text }),
             Err(_) => Err(NoMemory),
         }
+    }
+
+    /// The same name in memory that was made before: this text is empty, and has room for the longest
+    /// path.
+    pub fn copy_to(&self, mut room: String) -> Name
+        requires empty { string_bytes room ≡ [] }
+        requires fits { MAX_PATH ≤ string_capacity room }
+        ensures { result ≡ self.now }
+    {
+        room.push_str(self.text.as_str()).unwrap();
+        Name { text: room }
     }
 
     /// Whether the path is one of the receiver's own files, `.wlog` or `.wlog.new`.
