@@ -98,7 +98,7 @@ lane_confirms n planned h e l b allowed is = subst (Confirms b) (sym (ap (λ x. 
 
 -- ---- all lanes
 
-any_last : {X : Type 0} (p : X → Bool) (xs : List X) (x : X) → list_any p (xs ++ x ∷ []) ≡ (list_any p xs || p x)
+pub any_last : {X : Type 0} (p : X → Bool) (xs : List X) (x : X) → list_any p (xs ++ x ∷ []) ≡ (list_any p xs || p x)
 any_last p xs x = list_any-append p xs (x ∷ []) ∙ go (list_any p xs) (p x) where
   go : (a c : Bool) → (a || (c || false)) ≡ (a || c)
   go true c = refl

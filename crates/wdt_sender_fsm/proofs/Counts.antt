@@ -66,6 +66,26 @@ rising_once b (x ∷ xs) rising =
 
 -- ---- sums over the lanes below n
 
-pub total : ℕ → (ℕ → ℕ) → ℕ
+abbrev pub total : ℕ → (ℕ → ℕ) → ℕ
 total zero f = 0
 total (suc n) f = total n f + f n
+
+pub total_below : (n : ℕ) (f g : ℕ → ℕ) → ((l : ℕ) → g l ≤ f l) → total n g ≤ total n f
+total_below zero f g below = omega arith
+total_below (suc n) f g below = omega (arith, total_below n f g below, below n)
+
+one_apart : (n k : ℕ) → (n ≡ k) ⊎ (n ≢ k)
+one_apart n k = cases_eq n k
+
+pub total_one : (n k : ℕ) (f g : ℕ → ℕ) → ((l : ℕ) → l ≢ k → g l ≤ f l) → g k ≤ f k + 1 → total n g ≤ total n f + 1
+total_one zero k f g below one = omega arith
+total_one (suc n) k f g below one = go (one_apart n k) (total_one n k f g below one) where
+  lower : (m : ℕ) → m ≤ k → total m g ≤ total m f
+  lower zero le = omega arith
+  lower (suc m) le = omega (arith, lower m (omega (arith, le)), below m (λ e. omega (arith, le, e)))
+
+  go : (n ≡ k) ⊎ (n ≢ k) → total n g ≤ total n f + 1 → total (suc n) g ≤ total (suc n) f + 1
+  go (inl e) rest =
+    let here : g n ≤ f n + 1 = subst (λ (j : ℕ). g j ≤ f j + 1) (sym e) one in
+    omega (arith, lower n (omega (arith, e)), here)
+  go (inr ne) rest = omega (arith, rest, below n ne)

@@ -2,6 +2,7 @@ pub mod Confirmed
 pub mod Counts
 pub mod Histories
 pub mod Phases
+pub mod Placed
 pub mod Speaks
 pub mod Stands
 pub mod Steps

@@ -1,5 +1,5 @@
 -- Where each block of the plan stands, read off the history.
-use Rattle.std.specs.Prelude.{ℕ, zero, suc, ◌+◌, ◌-◌, ◌==◌, ◌&&◌, not, Bool, if◌then◌else◌, List, [], ◌∷◌, ◌++◌, length, take, drop, filter, count_by, Option, Some, None, true, false}
+use Rattle.std.specs.Prelude.{◌≡◌, refl, ℕ, zero, suc, ◌+◌, ◌-◌, ◌==◌, ◌&&◌, not, Bool, if◌then◌else◌, List, [], ◌∷◌, ◌++◌, length, take, drop, filter, count_by, Option, Some, None, true, false}
 use Rattle.std.specs.List.{list_any}
 use Rattle.wdt_units.specs.LaneWords.{Claims}
 use Rattle.wdt_units.specs.declared.blocks.Block.{Block}
@@ -18,6 +18,10 @@ claims_of n h = tabulate n (λ l. (past_of h l).claims)
 -- the blocks of the plan now: those that were planned
 unfoldable pub planned_now : List Block → List SendEvent → List Block
 planned_now planned h = planned
+
+pub planned_now-is : (planned : List Block) (h : List SendEvent) → planned_now planned h ≡ planned
+unfolding planned_now
+planned_now-is planned h = refl
 
 -- two blocks are the same part of the same file
 abbrev pub is_same_block : Block → Block → Bool
