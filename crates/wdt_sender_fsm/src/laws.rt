@@ -1,8 +1,22 @@
 //! Laws of what the specifications of this crate define. The functions do nothing: their contracts
 //! are the laws.
-ghost use Rattle.std.specs.Prelude.{◌≡◌, [], ◌∷◌};
+ghost use Rattle.std.specs.Prelude.{◌≡◌, ℕ, ◌+◌, ◌<◌, Bool, true, false, List, [], ◌∷◌, ◌++◌, length, Some};
+ghost use Rattle.wdt_units.specs.declared.blocks.Block.{Block};
+ghost use Rattle.wdt_units.specs.declared.numbers.Lane.{Lane};
+ghost use Rattle.wdt_codec.specs.declared.frames.Frame.{Frame};
 ghost use Rattle.wdt_codec.specs.declared.frames.Frame.TheVariants as frames;
+ghost use Rattle.wdt_tree.specs.Rest.{is_rising};
+ghost use Rattle.wdt_sender_fsm.specs.declared.events.SendEvent.{SendEvent};
+ghost use Rattle.wdt_sender_fsm.specs.declared.inputs.SendIn.{SendIn};
 ghost use Rattle.wdt_sender_fsm.specs.declared.inputs.SendIn.TheVariants.{Got};
+ghost use Rattle.wdt_sender_fsm.specs.declared.states.SendState.{SendState};
+ghost use Rattle.wdt_sender_fsm.specs.Legal.{IsAllowed, IsLegal, IsSound};
+ghost use Rattle.wdt_sender_fsm.specs.Phases.{Phase, Message, Agree, FitsLane, StandsIn, down, up, phase_by, phase_heard, phase_holding, is_named};
+ghost use Rattle.wdt_sender_fsm.specs.Places.{claims_of, count_of, kept_of, place, queued, Confirmed};
+ghost use Rattle.wdt_sender_fsm.specs.PlainSender.{PlainSender, is_closed, lane_at};
+ghost use Rattle.wdt_sender_fsm.specs.Rows.{row_of};
+ghost use Rattle.wdt_sender_fsm.specs.Rules.{is_failure};
+ghost use Rattle.wdt_sender_fsm.specs.SenderHistory.{past_of};
 ghost use Rattle.wdt_sender_fsm.specs.Turn.{send_turn};
 ghost use Rattle.wdt_sender_fsm.specs.Worked.{lane, mark, one_lane, wrongly_greeted, rightly_greeted, two_lanes, done_early, two_unlisted, done_before_a_plan, half_lost, taken_over};
 
@@ -14,4 +28,31 @@ pub fn worked_steps()
     ensures finished_early { send_turn two_lanes (lane 1) (Got frames.Done) ≡ done_early }
     ensures finished_before_a_plan { send_turn two_unlisted (lane 1) (Got frames.Done) ≡ done_before_a_plan }
     ensures took_over { send_turn half_lost (lane 1) (Got (frames.ErrMarks (mark 0 0 ∷ []))) ≡ taken_over }
+{}
+
+/// What a legal history says: of each lane; that a block which has surely landed stays so; and that each
+/// block of the plan stands once, in the queue or in one lane's list.
+pub fn histories_are_sound()
+    ensures sound { (n : ℕ) (planned : List Block) (h : List SendEvent) (l : ℕ) → IsLegal n planned h → IsSound (past_of h l) }
+    ensures confirmed { (n : ℕ) (planned : List Block) (h : List SendEvent) (e : SendEvent) (b : Block) → IsAllowed n planned h e → place (claims_of n h) b ≡ Confirmed → place (claims_of n (h ++ e ∷ [])) b ≡ Confirmed }
+    ensures placed { (n : ℕ) (planned : List Block) (h : List SendEvent) (b : Block) → is_rising planned ≡ true → IsLegal n planned h → count_of b (queued n planned h) + count_of b (kept_of (claims_of n h)) ≡ count_of b planned }
+{}
+
+/// The two ends of a connection speak in turn: in no phase both have the word, and where they agree,
+/// what one says keeps them agreed, and what the other hears has its move.
+pub fn ends_speak_in_turn()
+    ensures one_talker { (p q r : Phase) (m : Message) (f : Frame) → down p m ≡ Some q → up p f ≡ Some r → ⊥ }
+    ensures says_down { (s r t : Phase) (ds : List Message) (us : List Frame) (m : Message) → Agree s r ds us → down s m ≡ Some t → Agree t r (ds ++ m ∷ []) us }
+    ensures says_up { (s r t : Phase) (ds : List Message) (us : List Frame) (f : Frame) → Agree s r ds us → up r f ≡ Some t → Agree s t ds (us ++ f ∷ []) }
+    ensures hears_down { (s r : Phase) (ds : List Message) (us : List Frame) (m : Message) → Agree s r (m ∷ ds) us → (q : Phase) × (down r m ≡ Some q) × Agree s q ds us }
+    ensures hears_up { (s r : Phase) (ds : List Message) (us : List Frame) (f : Frame) → Agree s r ds (f ∷ us) → (q : Phase) × (up s f ≡ Some q) × Agree q r ds us }
+{}
+
+/// The sender's end of that talk: what a lane is to write are moves of its phase; its phase with the
+/// input that it holds is its phase behind the step, or the end fails in it; and what may be said to it
+/// has a row of the table.
+pub fn a_sender_speaks_in_turn()
+    ensures writes { (s : PlainSender) (l : Lane) (input : SendIn) → l.0 < length s.lanes → FitsLane (lane_at (send_turn s l input).1 l.0) (send_turn s l input).0 }
+    ensures stands { (s : PlainSender) (l : Lane) (input : SendIn) (p : Phase) → l.0 < length s.lanes → is_closed s l.0 ≡ false → is_failure s.answer ≡ false → phase_holding (lane_at s l.0) input ≡ Some p → StandsIn p l (send_turn s l input).1 }
+    ensures hears { (state : SendState) (ask acked : Bool) (frame : Frame) (q : Phase) → phase_heard frame (phase_by ask acked state) ≡ Some q → is_named (row_of state (Got frame)) ≡ true }
 {}

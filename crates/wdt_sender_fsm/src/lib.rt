@@ -23,7 +23,9 @@ pub use acts::SendAct;
 pub use answers::{EndAnswer, RefusedKind};
 pub use events::SendEvent;
 pub use inputs::SendIn;
-pub use laws::worked_steps;
+pub use laws::{
+    a_sender_speaks_in_turn, ends_speak_in_turn, histories_are_sound, worked_steps,
+};
 pub use peers::PeerKind;
 pub use rows::{SendRow, allowed, row};
 pub use states::{SendLane, SendState};

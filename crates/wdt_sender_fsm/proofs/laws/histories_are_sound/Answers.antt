@@ -1,0 +1,13 @@
+use Rattle.wdt_sender_fsm.proofs.Confirmed.{stays_confirmed}
+use Rattle.wdt_sender_fsm.proofs.Histories.{legal_sound}
+use Rattle.wdt_sender_fsm.proofs.Placed.{placed_once}
+use Rattle.wdt_sender_fsm.proofs.laws.histories_are_sound.Goals as goal
+
+pub returns-clause-sound : goal.returns-clause-sound
+returns-clause-sound c = legal_sound
+
+pub returns-clause-confirmed : goal.returns-clause-confirmed
+returns-clause-confirmed c = stays_confirmed
+
+pub returns-clause-placed : goal.returns-clause-placed
+returns-clause-placed c = placed_once
