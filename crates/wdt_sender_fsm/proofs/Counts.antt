@@ -1,34 +1,50 @@
 -- How often a block stands in the queue and in the lanes' lists: as often as in the plan.
-use Rattle.std.proofs.Common.{◌≡◌, ◌≢◌, ◌⊎◌, ℕ, zero, suc, ◌+◌, ◌<◌, ◌≤◌, ◌==◌, ◌||◌, ◌&&◌, not, List, [], ◌∷◌, ◌++◌, length, take, filter, Bool, true, false, if◌then◌else◌, Option, Some, None, subst, sym, ap, ◌∙◌, arith, refl, inl, inr, eq-eqb}
+use Rattle.std.proofs.Common.{◌≡◌, ◌≢◌, ◌⊎◌, ℕ, zero, suc, ◌+◌, ◌<◌, ◌≤◌, ◌==◌, ◌||◌, ◌&&◌, not, List, [], ◌∷◌, ◌++◌, length, take, filter, Bool, true, false, cond, if◌then◌else◌, Option, Some, None, subst, sym, ap, ◌∙◌, arith, refl, inl, inr, eq-eqb}
 use Rattle.std.specs.List.{list_any, list_all}
 use Rattle.std.proofs.lemmas.Bool.{cases_eq, ne_eqb, and_parts, or_left, or_right, or_parts}
 use Rattle.wdt_units.specs.LaneWords.{Claims, claimed, sent, cut_to, closed_at, finished}
 use Rattle.wdt_units.specs.declared.blocks.Block.{Block}
 use Rattle.wdt_tree.specs.Rest.{is_earlier, is_rising}
-use Rattle.wdt_sender_fsm.specs.Places.{is_same_block, is_among, one_if, count_of, kept_of, tabulate}
+use Rattle.std.proofs.lemmas.List.Recursion.{is_count_by}
+use Rattle.wdt_sender_fsm.specs.Places.{is_same_block, is_among, count_of}
 
 -- ---- counts of lists
 
-pub count_append : (b : Block) (xs ys : List Block) → count_of b (xs ++ ys) ≡ count_of b xs + count_of b ys
+abbrev pub one_if : Bool → ℕ
+one_if true = 1
+one_if false = 0
+
+-- how often a block stands in a list, by its first blocks
+abbrev pub tally : Block → List Block → ℕ
+tally b [] = 0
+tally b (a ∷ blocks) = one_if (is_same_block b a) + tally b blocks
+
+pub tally_is : (b : Block) (xs : List Block) → tally b xs ≡ count_of b xs
+tally_is b xs = is_count_by (tally b) (is_same_block b) refl (λ x ys. go (is_same_block b x) (tally b ys)) xs where
+  go : (same : Bool) (n : ℕ) → one_if same + n ≡ cond same (1 + n) n
+  go true n = refl
+  go false n = omega arith
+
+pub count_append : (b : Block) (xs ys : List Block) → tally b (xs ++ ys) ≡ tally b xs + tally b ys
 count_append b [] ys = omega arith
 count_append b (x ∷ xs) ys = omega (arith, count_append b xs ys)
 
-pub count_take : (b : Block) (n : ℕ) (xs : List Block) → count_of b (take n xs) ≤ count_of b xs
+pub count_take : (b : Block) (n : ℕ) (xs : List Block) → tally b (take n xs) ≤ tally b xs
 count_take b zero xs = omega arith
 count_take b (suc n) [] = omega arith
 count_take b (suc n) (x ∷ xs) = omega (arith, count_take b n xs)
 
-pub count_none : (b : Block) (xs : List Block) → is_among xs b ≡ false → count_of b xs ≡ 0
+pub count_none : (b : Block) (xs : List Block) → is_among xs b ≡ false → tally b xs ≡ 0
 count_none b [] none = refl
 count_none b (x ∷ xs) none =
     let parts = or_parts (is_same_block b x) (is_among xs b) none in
     let rest = count_none b xs parts.1 in
     rw (parts.0) (omega (arith, rest))
 
-pub count_some : (b : Block) (xs : List Block) → is_among xs b ≡ true → 1 ≤ count_of b xs
+pub count_some : (b : Block) (xs : List Block) → is_among xs b ≡ true → 1 ≤ tally b xs
 count_some b [] among = cc
 count_some b (x ∷ xs) among = go (is_same_block b x) (count_some b xs) among where
-  go : (same : Bool) → (is_among xs b ≡ true → 1 ≤ count_of b xs) → (same || is_among xs b) ≡ true → 1 ≤ one_if same + count_of b xs
+  go : (same : Bool) → (is_among xs b ≡ true → 1 ≤ tally b xs) → (same || is_among xs b) ≡ true → 1 ≤ one_if same + tally b xs
   go true f e = omega arith
   go false f e = omega (arith, f e)
 
@@ -55,12 +71,12 @@ later_none a b (x ∷ xs) same all =
     let apart : is_same_block b x ≡ false = subst (λ (c : Block). is_same_block c x ≡ false) (sym (same_block b a same)) (earlier_apart a x parts.0) in
     rw (apart) (later_none a b xs same parts.1)
 
-pub rising_once : (b : Block) (xs : List Block) → is_rising xs ≡ true → count_of b xs ≤ 1
+pub rising_once : (b : Block) (xs : List Block) → is_rising xs ≡ true → tally b xs ≤ 1
 rising_once b [] rising = omega arith
 rising_once b (x ∷ xs) rising =
     let parts = and_parts (list_all (is_earlier x) xs) (is_rising xs) rising in
     go (is_same_block b x) refl (rising_once b xs parts.1) parts.0 where
-  go : (same : Bool) → is_same_block b x ≡ same → count_of b xs ≤ 1 → list_all (is_earlier x) xs ≡ true → one_if same + count_of b xs ≤ 1
+  go : (same : Bool) → is_same_block b x ≡ same → tally b xs ≤ 1 → list_all (is_earlier x) xs ≡ true → one_if same + tally b xs ≤ 1
   go true is once all = omega (arith, count_none b xs (later_none x b xs is all))
   go false is once all = omega (arith, once)
 

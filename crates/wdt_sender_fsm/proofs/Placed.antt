@@ -3,16 +3,17 @@ use Rattle.std.proofs.Common.{◌≡◌, ◌≢◌, ◌⊎◌, ℕ, zero, suc, �
 use Rattle.std.specs.List.{list_any}
 use Rattle.std.proofs.lemmas.Bool.{or_parts}
 use Rattle.std.proofs.lemmas.Option.{same_Some}
+use Rattle.std.proofs.lemmas.List.Sums.{sum_by-append}
 use Rattle.wdt_units.specs.LaneWords.{Claims, claimed, sent, cut_to, closed_at, finished}
 use Rattle.wdt_units.specs.declared.blocks.Block.{Block}
 use Rattle.wdt_tree.specs.Rest.{is_rising}
 use Rattle.wdt_sender_fsm.specs.declared.events.SendEvent.{SendEvent}
 use Rattle.wdt_sender_fsm.specs.declared.events.SendEvent.TheVariants.{Linked, NoLink, Lost, Greet, Chunks, Claim, Sent, Done, Global, Finish, Acked, Quit, Abort, Peer}
 use Rattle.wdt_sender_fsm.specs.Legal.{IsAllowed, IsLegal}
-use Rattle.wdt_sender_fsm.specs.Places.{tabulate, claims_of, planned_now, planned_now-is, is_same_block, is_among, keeps, is_queued, queue_of, queued, least_of, one_if, count_of, kept_of}
+use Rattle.wdt_sender_fsm.specs.Places.{tabulate, claims_of, planned_now, planned_now-is, is_same_block, is_among, keeps, is_queued, queue_of, queued, least_of, count_of, count_in as count_in_lane, count_kept}
 use Rattle.wdt_sender_fsm.specs.SenderHistory.{past_of, past_of-more, past_of-none, no_past, close_by, claims_after}
 use Rattle.wdt_sender_fsm.proofs.Confirmed.{any_last}
-use Rattle.wdt_sender_fsm.proofs.Counts.{count_append, count_take, count_none, count_some, same_block, same_self, rising_once, total, total_below, total_one}
+use Rattle.wdt_sender_fsm.proofs.Counts.{one_if, tally, tally_is, count_append, count_take, count_none, count_some, same_block, same_self, rising_once, total, total_below, total_one}
 use Rattle.wdt_sender_fsm.proofs.Histories.{of_legal, if_same}
 
 -- ---- filters
@@ -33,20 +34,20 @@ first_passes p (y ∷ ys) x is = go (p y) refl (first_passes p ys x) is where
 passes : (p : Block → Bool) (b x : Block) → p b ≡ true → is_same_block b x ≡ true → p x ≡ true
 passes p b x is same = subst (λ (z : Block). p z ≡ true) (same_block b x same) is
 
-count_passing : (p : Block → Bool) (b : Block) (xs : List Block) → p b ≡ true → count_of b (filter p xs) ≡ count_of b xs
+count_passing : (p : Block → Bool) (b : Block) (xs : List Block) → p b ≡ true → tally b (filter p xs) ≡ tally b xs
 count_passing p b [] is = refl
 count_passing p b (x ∷ xs) is = go (p x) refl (is_same_block b x) refl (count_passing p b xs is) where
-  go : (q : Bool) → p x ≡ q → (same : Bool) → is_same_block b x ≡ same → count_of b (filter p xs) ≡ count_of b xs → count_of b (cond q (x ∷ filter p xs) (filter p xs)) ≡ one_if same + count_of b xs
+  go : (q : Bool) → p x ≡ q → (same : Bool) → is_same_block b x ≡ same → tally b (filter p xs) ≡ tally b xs → tally b (cond q (x ∷ filter p xs) (filter p xs)) ≡ one_if same + tally b xs
   go true e same f rest = rw f (omega (arith, rest))
   go false e true f rest = absurd (apart (sym e ∙ passes p b x is f)) where
     apart : false ≡ true → ⊥
     apart z = cc
   go false e false f rest = omega (arith, rest)
 
-count_stopped : (p : Block → Bool) (b : Block) (xs : List Block) → p b ≡ false → count_of b (filter p xs) ≡ 0
+count_stopped : (p : Block → Bool) (b : Block) (xs : List Block) → p b ≡ false → tally b (filter p xs) ≡ 0
 count_stopped p b [] is = refl
 count_stopped p b (x ∷ xs) is = go (p x) refl (is_same_block b x) refl (count_stopped p b xs is) where
-  go : (q : Bool) → p x ≡ q → (same : Bool) → is_same_block b x ≡ same → count_of b (filter p xs) ≡ 0 → count_of b (cond q (x ∷ filter p xs) (filter p xs)) ≡ 0
+  go : (q : Bool) → p x ≡ q → (same : Bool) → is_same_block b x ≡ same → tally b (filter p xs) ≡ 0 → tally b (cond q (x ∷ filter p xs) (filter p xs)) ≡ 0
   go false e same f rest = rest
   go true e true f rest = absurd (apart (sym (subst (λ (z : Block). p z ≡ true) (sym (same_block b x f)) e) ∙ is)) where
     apart : true ≡ false → ⊥
@@ -56,18 +57,12 @@ count_stopped p b (x ∷ xs) is = go (p x) refl (is_same_block b x) refl (count_
 -- ---- the lanes' lists
 
 abbrev count_in : Block → (ℕ → Claims) → ℕ → ℕ
-count_in b f l = count_of b (f l).kept
+count_in b f l = tally b (f l).kept
 
-kept_last : (b : Block) (lanes : List Claims) (s : Claims) → count_of b (kept_of (lanes ++ s ∷ [])) ≡ count_of b (kept_of lanes) + count_of b s.kept
-kept_last b [] s = count_append b s.kept [] ∙ omega arith
-kept_last b (x ∷ lanes) s =
-    let all = count_append b x.kept (kept_of (lanes ++ s ∷ [])) in
-    let some = count_append b x.kept (kept_of lanes) in
-    omega (arith, all, some, kept_last b lanes s)
-
-kept_total : (b : Block) (n : ℕ) (f : ℕ → Claims) → count_of b (kept_of (tabulate n f)) ≡ total n (count_in b f)
+-- the sum over all lanes' lists
+kept_total : (b : Block) (n : ℕ) (f : ℕ → Claims) → count_kept b (tabulate n f) ≡ total n (count_in b f)
 kept_total b zero f = refl
-kept_total b (suc n) f = omega (arith, kept_last b (tabulate n f) (f n), kept_total b n f)
+kept_total b (suc n) f = omega (arith, sum_by-append (count_in_lane b) (tabulate n f) (f n ∷ []), kept_total b n f, sym (tally_is b (f n).kept))
 
 total_none : (b : Block) (n : ℕ) (f : ℕ → Claims) → list_any (keeps b) (tabulate n f) ≡ false → total n (count_in b f) ≡ 0
 total_none b zero f none = refl
@@ -79,7 +74,7 @@ total_some : (b : Block) (n : ℕ) (f : ℕ → Claims) → list_any (keeps b) (
 total_some b zero f some = cc
 total_some b (suc n) f some =
     go (list_any (keeps b) (tabulate n f)) (total_some b n f) (keeps b (f n)) (count_some b (f n).kept) (sym (any_last (keeps b) (tabulate n f) (f n)) ∙ some) where
-  go : (a : Bool) → (a ≡ true → 1 ≤ total n (count_in b f)) → (c : Bool) → (c ≡ true → 1 ≤ count_of b (f n).kept) → (a || c) ≡ true → 1 ≤ total (suc n) (count_in b f)
+  go : (a : Bool) → (a ≡ true → 1 ≤ total n (count_in b f)) → (c : Bool) → (c ≡ true → 1 ≤ tally b (f n).kept) → (a || c) ≡ true → 1 ≤ total (suc n) (count_in b f)
   go true i c j e = omega (arith, i refl)
   go false i true j e = omega (arith, j refl)
   go false i false j e = cc
@@ -99,12 +94,12 @@ claims_in h l = (past_of h l).claims
 
 -- no lane's list has a block more often than the plan
 abbrev Once : ℕ → List Block → List SendEvent → Type 0
-Once n planned h = (b : Block) → total n (count_in b (claims_in h)) ≤ count_of b planned
+Once n planned h = (b : Block) → total n (count_in b (claims_in h)) ≤ tally b planned
 
 abbrev AtMost : Block → ℕ → Claims → Type 0
-AtMost b n s = count_of b s.kept ≤ n
+AtMost b n s = tally b s.kept ≤ n
 
-close_count : (b : Block) (o : Option ℕ) (s : Claims) (n : ℕ) → AtMost b (count_of b s.kept) (close_by o n s)
+close_count : (b : Block) (o : Option ℕ) (s : Claims) (n : ℕ) → AtMost b (tally b s.kept) (close_by o n s)
 close_count b None s n = count_take b n s.kept
 close_count b (Some m) s n = omega arith
 
@@ -113,11 +108,11 @@ abbrev IsClaim : SendEvent → Type 0
 IsClaim (Claim k x) = Unit {0}
 IsClaim _ = ⊥
 
-no_more : (b : Block) (l : ℕ) (s : Claims) (e : SendEvent) → (IsClaim e → ⊥) → AtMost b (count_of b s.kept) (claims_after l s e)
+no_more : (b : Block) (l : ℕ) (s : Claims) (e : SendEvent) → (IsClaim e → ⊥) → AtMost b (tally b s.kept) (claims_after l s e)
 no_more b l s (Claim k x) not_claim = absurd (not_claim tt)
-no_more b l s (Greet k c) not_claim = if_same (AtMost b (count_of b s.kept)) k.0 l (cut_to c 0 s) s (λ e. count_take b c s.kept) (omega arith)
-no_more b l s (Sent k) not_claim = if_same (AtMost b (count_of b s.kept)) k.0 l (sent s) s (λ e. omega arith) (omega arith)
-no_more b l s (Global k c m) not_claim = if_same (AtMost b (count_of b s.kept)) c.0 l (close_by s.closed m s) s (λ e. close_count b s.closed s m) (omega arith)
+no_more b l s (Greet k c) not_claim = if_same (AtMost b (tally b s.kept)) k.0 l (cut_to c 0 s) s (λ e. count_take b c s.kept) (omega arith)
+no_more b l s (Sent k) not_claim = if_same (AtMost b (tally b s.kept)) k.0 l (sent s) s (λ e. omega arith) (omega arith)
+no_more b l s (Global k c m) not_claim = if_same (AtMost b (tally b s.kept)) c.0 l (close_by s.closed m s) s (λ e. close_count b s.closed s m) (omega arith)
 no_more b l s (Finish k) not_claim = omega arith
 no_more b l s (Linked k c) not_claim = omega arith
 no_more b l s (NoLink k) not_claim = omega arith
@@ -129,8 +124,8 @@ no_more b l s (Quit k) not_claim = omega arith
 no_more b l s (Abort k c) not_claim = omega arith
 no_more b l s (Peer k c) not_claim = omega arith
 
-after_is : (b : Block) (h : List SendEvent) (e : SendEvent) (l : ℕ) → count_in b (claims_in (h ++ e ∷ [])) l ≡ count_of b (claims_after l (claims_in h l) e).kept
-after_is b h e l = ap (λ x. count_of b x.claims.kept) (past_of-more h e l)
+after_is : (b : Block) (h : List SendEvent) (e : SendEvent) (l : ℕ) → count_in b (claims_in (h ++ e ∷ [])) l ≡ tally b (claims_after l (claims_in h l) e).kept
+after_is b h e l = ap (λ x. tally b x.claims.kept) (past_of-more h e l)
 
 others_once : (n : ℕ) (planned : List Block) (h : List SendEvent) (e : SendEvent) → (IsClaim e → ⊥) → Once n planned h → Once n planned (h ++ e ∷ [])
 others_once n planned h e not_claim once b =
@@ -138,15 +133,15 @@ others_once n planned h e not_claim once b =
     omega (arith, below, once b)
 
 -- a claim adds the block to its lane's list
-claim_more : (b x : Block) (l k : ℕ) (s : Claims) → count_of b (if k == l then claimed x s else s).kept ≤ count_of b s.kept + one_if (is_same_block b x)
+claim_more : (b x : Block) (l k : ℕ) (s : Claims) → tally b (if k == l then claimed x s else s).kept ≤ tally b s.kept + one_if (is_same_block b x)
 claim_more b x l k s =
-    if_same (AtMost b (count_of b s.kept + one_if (is_same_block b x))) k l (claimed x s) s (λ e. omega (arith, count_append b s.kept (x ∷ []))) (omega arith)
+    if_same (AtMost b (tally b s.kept + one_if (is_same_block b x))) k l (claimed x s) s (λ e. omega (arith, count_append b s.kept (x ∷ []))) (omega arith)
 
-claim_other : (b x : Block) (l k : ℕ) (s : Claims) → l ≢ k → count_of b (if k == l then claimed x s else s).kept ≤ count_of b s.kept
-claim_other b x l k s other = if_same (AtMost b (count_of b s.kept)) k l (claimed x s) s (λ e. absurd (other (sym e))) (omega arith)
+claim_other : (b x : Block) (l k : ℕ) (s : Claims) → l ≢ k → tally b (if k == l then claimed x s else s).kept ≤ tally b s.kept
+claim_other b x l k s other = if_same (AtMost b (tally b s.kept)) k l (claimed x s) s (λ e. absurd (other (sym e))) (omega arith)
 
-claim_once : (n : ℕ) (planned : List Block) (h : List SendEvent) (k : ℕ) (x : Block) (g : ℕ → Claims) → ((b : Block) (l : ℕ) → count_in b g l ≡ count_of b (if k == l then claimed x (claims_in h l) else claims_in h l).kept)
-    → least_of (queue_of planned (claims_of n h)) ≡ Some x → Once n planned h → (b : Block) → total n (count_in b g) ≤ count_of b planned
+claim_once : (n : ℕ) (planned : List Block) (h : List SendEvent) (k : ℕ) (x : Block) (g : ℕ → Claims) → ((b : Block) (l : ℕ) → count_in b g l ≡ tally b (if k == l then claimed x (claims_in h l) else claims_in h l).kept)
+    → least_of (queue_of planned (claims_of n h)) ≡ Some x → Once n planned h → (b : Block) → total n (count_in b g) ≤ tally b planned
 claim_once n planned h k x g is least once b = go (is_same_block b x) refl where
   waits : (is_queued (claims_of n h) x ≡ true) × (is_among planned x ≡ true)
   waits = first_passes (is_queued (claims_of n h)) planned x least
@@ -157,12 +152,12 @@ claim_once n planned h k x g is least once b = go (is_same_block b x) refl where
   other : (l : ℕ) → l ≢ k → count_in b g l ≤ count_in b (claims_in h) l
   other l ne = subst (λ (c : ℕ). c ≤ count_in b (claims_in h) l) (sym (is b l)) (claim_other b x l k (claims_in h l) ne)
 
-  go : (same : Bool) → is_same_block b x ≡ same → total n (count_in b g) ≤ count_of b planned
+  go : (same : Bool) → is_same_block b x ≡ same → total n (count_in b g) ≤ tally b planned
   go true e =
     let same : b ≡ x = same_block b x e in
     let most = total_one n k (count_in b (claims_in h)) (count_in b g) other (subst (λ (s : Bool). count_in b g k ≤ count_in b (claims_in h) k + one_if s) e (more k)) in
     let none : total n (count_in b (claims_in h)) ≡ 0 = total_none b n (claims_in h) (subst (λ (y : Block). list_any (keeps y) (claims_of n h) ≡ false) (sym same) (not_any (list_any (keeps x) (claims_of n h)) waits.0)) in
-    let there : 1 ≤ count_of b planned = count_some b planned (subst (λ (y : Block). is_among planned y ≡ true) (sym same) waits.1) in
+    let there : 1 ≤ tally b planned = count_some b planned (subst (λ (y : Block). is_among planned y ≡ true) (sym same) waits.1) in
     omega (arith, most, none, there)
   go false e =
     let below = total_below n (count_in b (claims_in h)) (count_in b g) (λ l. omega (arith, subst (λ (s : Bool). count_in b g l ≤ count_in b (claims_in h) l + one_if s) e (more l))) in
@@ -188,7 +183,7 @@ step_once n planned h (Peer k c) once allowed = others_once n planned h (Peer k 
 
 total_zero : (b : Block) (n : ℕ) → total n (count_in b (claims_in [])) ≡ 0
 total_zero b zero = refl
-total_zero b (suc n) = omega (arith, total_zero b n, ap (λ x. count_of b x.claims.kept) (past_of-none n))
+total_zero b (suc n) = omega (arith, total_zero b n, ap (λ x. tally b x.claims.kept) (past_of-none n))
 
 none_once : (n : ℕ) (planned : List Block) → Once n planned []
 none_once n planned b = omega (arith, total_zero b n)
@@ -198,13 +193,14 @@ legal_once n planned h legal = of_legal n planned (Once n planned) (none_once n 
 
 -- ---- the law
 
-placed_by : (n : ℕ) (planned : List Block) (h : List SendEvent) (b : Block) → count_of b planned ≤ 1 → Once n planned h → (q : Bool) → is_queued (claims_of n h) b ≡ q → count_of b (queue_of planned (claims_of n h)) + count_of b (kept_of (claims_of n h)) ≡ count_of b planned
+placed_by : (n : ℕ) (planned : List Block) (h : List SendEvent) (b : Block) → tally b planned ≤ 1 → Once n planned h → (q : Bool) → is_queued (claims_of n h) b ≡ q → tally b (queue_of planned (claims_of n h)) + count_kept b (claims_of n h) ≡ tally b planned
 placed_by n planned h b few once true is =
     omega (arith, count_passing (is_queued (claims_of n h)) b planned is, kept_total b n (claims_in h), total_none b n (claims_in h) (not_any (list_any (keeps b) (claims_of n h)) is))
 placed_by n planned h b few once false is =
     omega (arith, few, once b, count_stopped (is_queued (claims_of n h)) b planned is, kept_total b n (claims_in h), total_some b n (claims_in h) (some_any (list_any (keeps b) (claims_of n h)) is))
 
-pub placed_once : (n : ℕ) (planned : List Block) (h : List SendEvent) (b : Block) → is_rising planned ≡ true → IsLegal n planned h → count_of b (queued n planned h) + count_of b (kept_of (claims_of n h)) ≡ count_of b planned
+pub placed_once : (n : ℕ) (planned : List Block) (h : List SendEvent) (b : Block) → is_rising planned ≡ true → IsLegal n planned h → count_of b (queued n planned h) + count_kept b (claims_of n h) ≡ count_of b planned
 placed_once n planned h b rising legal =
-    subst (λ (p : List Block). count_of b (queue_of p (claims_of n h)) + count_of b (kept_of (claims_of n h)) ≡ count_of b planned) (sym (planned_now-is planned h))
-      (placed_by n planned h b (rising_once b planned rising) (legal_once n planned h legal) (is_queued (claims_of n h) b) refl)
+    let placed = placed_by n planned h b (rising_once b planned rising) (legal_once n planned h legal) (is_queued (claims_of n h) b) refl in
+    subst (λ (p : List Block). count_of b (queue_of p (claims_of n h)) + count_kept b (claims_of n h) ≡ count_of b planned) (sym (planned_now-is planned h))
+      (omega (arith, placed, tally_is b (queue_of planned (claims_of n h)), tally_is b planned))

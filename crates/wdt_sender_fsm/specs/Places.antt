@@ -1,5 +1,5 @@
 -- Where each block of the plan stands, read off the history.
-use Rattle.std.specs.Prelude.{◌≡◌, refl, ℕ, zero, suc, ◌+◌, ◌-◌, ◌==◌, ◌&&◌, not, Bool, if◌then◌else◌, List, [], ◌∷◌, ◌++◌, length, take, drop, filter, count_by, Option, Some, None, true, false}
+use Rattle.std.specs.Prelude.{◌≡◌, refl, ℕ, zero, suc, ◌+◌, ◌-◌, ◌==◌, ◌&&◌, not, Bool, if◌then◌else◌, List, [], ◌∷◌, ◌++◌, length, take, drop, filter, count_by, Option, Some, None, true, false, sum_by}
 use Rattle.std.specs.List.{list_any}
 use Rattle.wdt_units.specs.LaneWords.{Claims}
 use Rattle.wdt_units.specs.declared.blocks.Block.{Block}
@@ -91,16 +91,14 @@ place lanes b =
 
 -- ---- how often a block stands somewhere
 
-abbrev pub one_if : Bool → ℕ
-one_if true = 1
-one_if false = 0
-
--- how often a block stands in a list
+-- in a list
 abbrev pub count_of : Block → List Block → ℕ
-count_of b [] = 0
-count_of b (a ∷ blocks) = one_if (is_same_block b a) + count_of b blocks
+count_of b blocks = count_by (is_same_block b) blocks
 
--- the blocks of all lanes' lists
-abbrev pub kept_of : List Claims → List Block
-kept_of [] = []
-kept_of (s ∷ lanes) = s.kept ++ kept_of lanes
+-- in a lane's list
+abbrev pub count_in : Block → Claims → ℕ
+count_in b s = count_of b s.kept
+
+-- in the lists of all lanes
+abbrev pub count_kept : Block → List Claims → ℕ
+count_kept b lanes = sum_by (count_in b) lanes

@@ -12,7 +12,7 @@ ghost use Rattle.wdt_sender_fsm.specs.declared.inputs.SendIn.TheVariants.{Got};
 ghost use Rattle.wdt_sender_fsm.specs.declared.states.SendState.{SendState};
 ghost use Rattle.wdt_sender_fsm.specs.Legal.{IsAllowed, IsLegal, IsSound};
 ghost use Rattle.wdt_sender_fsm.specs.Phases.{Phase, Message, Agree, FitsLane, StandsIn, down, up, phase_by, phase_heard, phase_holding, is_named};
-ghost use Rattle.wdt_sender_fsm.specs.Places.{claims_of, count_of, kept_of, place, queued, Confirmed};
+ghost use Rattle.wdt_sender_fsm.specs.Places.{claims_of, count_kept, count_of, place, queued, Confirmed};
 ghost use Rattle.wdt_sender_fsm.specs.PlainSender.{PlainSender, is_closed, lane_at};
 ghost use Rattle.wdt_sender_fsm.specs.Rows.{row_of};
 ghost use Rattle.wdt_sender_fsm.specs.Rules.{is_failure};
@@ -35,7 +35,7 @@ pub fn worked_steps()
 pub fn histories_are_sound()
     ensures sound { (n : ℕ) (planned : List Block) (h : List SendEvent) (l : ℕ) → IsLegal n planned h → IsSound (past_of h l) }
     ensures confirmed { (n : ℕ) (planned : List Block) (h : List SendEvent) (e : SendEvent) (b : Block) → IsAllowed n planned h e → place (claims_of n h) b ≡ Confirmed → place (claims_of n (h ++ e ∷ [])) b ≡ Confirmed }
-    ensures placed { (n : ℕ) (planned : List Block) (h : List SendEvent) (b : Block) → is_rising planned ≡ true → IsLegal n planned h → count_of b (queued n planned h) + count_of b (kept_of (claims_of n h)) ≡ count_of b planned }
+    ensures placed { (n : ℕ) (planned : List Block) (h : List SendEvent) (b : Block) → is_rising planned ≡ true → IsLegal n planned h → count_of b (queued n planned h) + count_kept b (claims_of n h) ≡ count_of b planned }
 {}
 
 /// The two ends of a connection speak in turn: in no phase both have the word, and where they agree,
