@@ -1,6 +1,8 @@
+pub mod Claimed
 pub mod Confirmed
 pub mod Counts
 pub mod Histories
+pub mod Lists
 pub mod Phases
 pub mod Placed
 pub mod Speaks

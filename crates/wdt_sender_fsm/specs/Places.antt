@@ -4,6 +4,7 @@ use Rattle.std.specs.List.{list_any}
 use Rattle.wdt_units.specs.LaneWords.{Claims}
 use Rattle.wdt_units.specs.declared.blocks.Block.{Block}
 use Rattle.wdt_sender_fsm.specs.declared.events.SendEvent.{SendEvent}
+use Rattle.wdt_sender_fsm.specs.declared.events.SendEvent.TheVariants.{Greet, Claim, Sent, Global, Finish}
 use Rattle.wdt_sender_fsm.specs.SenderHistory.{past_of}
 
 -- what f gives for the numbers below n, in order
@@ -102,3 +103,13 @@ count_in b s = count_of b s.kept
 -- in the lists of all lanes
 abbrev pub count_kept : Block → List Claims → ℕ
 count_kept b lanes = sum_by (count_in b) lanes
+
+-- ---- which entries change what lanes have claimed
+
+abbrev pub changes_claims : SendEvent → Bool
+changes_claims (Greet l n) = true
+changes_claims (Claim l b) = true
+changes_claims (Sent l) = true
+changes_claims (Global k l n) = true
+changes_claims (Finish l) = true
+changes_claims _ = false
