@@ -122,7 +122,7 @@ any_more p q (x ∷ xs) f is = go (p x) (f x) (any_more p q xs f) is where
   go false i j e = or_right _ _ (j e)
 
 -- a block is confirmed exactly where it is among those of a lane that have surely landed
-confirmed_by : (lanes : List Claims) (b : Block) → list_any (confirms b) lanes ≡ true → place lanes b ≡ Confirmed
+pub confirmed_by : (lanes : List Claims) (b : Block) → list_any (confirms b) lanes ≡ true → place lanes b ≡ Confirmed
 confirmed_by lanes b is = rw (any_more (confirms b) (keeps b) lanes (λ s. among_all b s.sure s.kept) is, is) refl
 
 confirms_by : (lanes : List Claims) (b : Block) → place lanes b ≡ Confirmed → list_any (confirms b) lanes ≡ true

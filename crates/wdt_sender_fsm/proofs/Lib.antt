@@ -2,6 +2,7 @@ pub mod Claimed
 pub mod Confirmed
 pub mod Counts
 pub mod Histories
+pub mod Landed
 pub mod Lists
 pub mod Phases
 pub mod Placed

@@ -7,6 +7,7 @@ use Rattle.std.specs.declared.cmp.Ordering.TheVariants.{Less, Equal, Greater}
 use Rattle.std.specs.Cmp.Lexicographic.{slice_cmp}
 use Rattle.std.proofs.lemmas.Bool.{and_from, and_parts, eqb-true}
 use Rattle.std.proofs.lemmas.Cmp.{nat_list_cmp_total}
+use Rattle.std.proofs.lemmas.Slice.Eq.{bytes_eq-Decides}
 use Rattle.wdt_units.specs.Have.{PlainSpan, HaveFile}
 use Rattle.wdt_units.specs.Tree.{is_before}
 use Rattle.wdt_ranges.specs.Files.{is_before_file, is_in_order}
@@ -74,3 +75,32 @@ same_spans (x ∷ xs) (y ∷ ys) same =
 spans_same : (xs : List PlainSpan) → are_same_spans xs xs ≡ true
 spans_same [] = refl
 spans_same (x ∷ xs) = rw (eq-eqb x.offset x.offset refl, eq-eqb x.count x.count refl) (spans_same xs)
+
+same_file : (a b : HaveFile) → is_same_file a b ≡ true → a ≡ b
+same_file a b same =
+    let p = and_parts (bytes_eq a.path b.path && a.size == b.size && a.stamp == b.stamp) (are_same_spans a.spans b.spans) same in
+    let q = and_parts (bytes_eq a.path b.path && a.size == b.size) (a.stamp == b.stamp) p.0 in
+    let r = and_parts (bytes_eq a.path b.path) (a.size == b.size) q.0 in
+    rw ((bytes_eq-Decides a.path b.path).0 r.0, eqb-true a.size b.size r.1, eqb-true a.stamp b.stamp q.1, same_spans a.spans b.spans p.1) refl
+
+file_same : (a : HaveFile) → is_same_file a a ≡ true
+file_same a = rw ((bytes_eq-Decides a.path a.path).1 refl, eq-eqb a.size a.size refl, eq-eqb a.stamp a.stamp refl, spans_same a.spans) refl
+
+no_difference_from : (at : ℕ) (xs ys : List HaveFile) → different_from at xs ys ≡ None → xs ≡ ys
+no_difference_from at [] [] none = refl
+no_difference_from at [] (y ∷ ys) none = some_none at none
+no_difference_from at (x ∷ xs) [] none = some_none at none
+no_difference_from at (x ∷ xs) (y ∷ ys) none = go (is_same_file x y) refl (no_difference_from (at + 1) xs ys) none where
+  go : (b : Bool) → is_same_file x y ≡ b → (different_from (at + 1) xs ys ≡ None → xs ≡ ys) → (if b then different_from (at + 1) xs ys else Some at) ≡ None → x ∷ xs ≡ y ∷ ys
+  go true e f n = rw (same_file x y e, f n) refl
+  go false e f n = some_none at n
+
+same_from : (at : ℕ) (xs : List HaveFile) → different_from at xs xs ≡ None
+same_from at [] = refl
+same_from at (x ∷ xs) = rw (file_same x) (same_from (at + 1) xs)
+
+pub no_difference : (xs ys : List HaveFile) → different_at xs ys ≡ None → xs ≡ ys
+no_difference xs ys none = no_difference_from 0 xs ys none
+
+pub same_lists : (xs : List HaveFile) → different_at xs xs ≡ None
+same_lists xs = same_from 0 xs

@@ -1,22 +1,27 @@
 //! Laws of what the specifications of this crate define. The functions do nothing: their contracts
 //! are the laws.
-ghost use Rattle.std.specs.Prelude.{◌≡◌, ℕ, ◌+◌, ◌<◌, Bool, true, false, List, [], ◌∷◌, ◌++◌, length, Some};
+ghost use Rattle.std.specs.Prelude.{◌≡◌, ℕ, ◌+◌, ◌<◌, Bool, ◌↔◌, true, false, List, [], ◌∷◌, ◌++◌, length, map, replicate, slice_index_or, slice_set, None, Some};
+ghost use Rattle.wdt_units.specs.Have.{HaveFile};
+ghost use Rattle.wdt_units.specs.LaneWords.{no_claims, claimed, cut_to, finished, sent};
 ghost use Rattle.wdt_units.specs.declared.blocks.Block.{Block};
 ghost use Rattle.wdt_units.specs.declared.numbers.Lane.{Lane};
 ghost use Rattle.wdt_codec.specs.declared.frames.Frame.{Frame};
 ghost use Rattle.wdt_codec.specs.declared.frames.Frame.TheVariants as frames;
+ghost use Rattle.wdt_ranges.specs.Files.{is_in_order};
 ghost use Rattle.wdt_tree.specs.Rest.{is_rising};
 ghost use Rattle.wdt_sender_fsm.specs.declared.events.SendEvent.{SendEvent};
+ghost use Rattle.wdt_sender_fsm.specs.declared.events.SendEvent.TheVariants as events;
 ghost use Rattle.wdt_sender_fsm.specs.declared.inputs.SendIn.{SendIn};
 ghost use Rattle.wdt_sender_fsm.specs.declared.inputs.SendIn.TheVariants.{Got};
 ghost use Rattle.wdt_sender_fsm.specs.declared.states.SendState.{SendState};
+ghost use Rattle.wdt_sender_fsm.specs.Chunks.{different_at, unordered_at};
 ghost use Rattle.wdt_sender_fsm.specs.Legal.{IsAllowed, IsLegal, IsSound};
 ghost use Rattle.wdt_sender_fsm.specs.Phases.{Phase, Message, Agree, FitsLane, StandsIn, down, up, phase_by, phase_heard, phase_holding, is_named};
-ghost use Rattle.wdt_sender_fsm.specs.Places.{claims_of, count_kept, count_of, place, queued, Confirmed};
+ghost use Rattle.wdt_sender_fsm.specs.Places.{changes_claims, claims_of, count_kept, count_of, is_among, place, queued, Confirmed};
 ghost use Rattle.wdt_sender_fsm.specs.PlainSender.{PlainSender, is_closed, lane_at};
 ghost use Rattle.wdt_sender_fsm.specs.Rows.{row_of};
 ghost use Rattle.wdt_sender_fsm.specs.Rules.{is_failure};
-ghost use Rattle.wdt_sender_fsm.specs.SenderHistory.{past_of};
+ghost use Rattle.wdt_sender_fsm.specs.SenderHistory.{close_by, end_of, past_of};
 ghost use Rattle.wdt_sender_fsm.specs.Turn.{send_turn};
 ghost use Rattle.wdt_sender_fsm.specs.Worked.{lane, mark, one_lane, wrongly_greeted, rightly_greeted, two_lanes, done_early, two_unlisted, done_before_a_plan, half_lost, taken_over};
 
@@ -30,11 +35,13 @@ pub fn worked_steps()
     ensures took_over { send_turn half_lost (lane 1) (Got (frames.ErrMarks (mark 0 0 ∷ []))) ≡ taken_over }
 {}
 
-/// What a legal history says: of each lane; that a block which has surely landed stays so; and that each
-/// block of the plan stands once, in the queue or in one lane's list.
+/// What a legal history says: of each lane; that a block which has surely landed stays so, and that each
+/// of the plan has once a lane read the receiver's last word; and that each block of the plan stands
+/// once, in the queue or in one lane's list.
 pub fn histories_are_sound()
     ensures sound { (n : ℕ) (planned : List Block) (h : List SendEvent) (l : ℕ) → IsLegal n planned h → IsSound (past_of h l) }
     ensures confirmed { (n : ℕ) (planned : List Block) (h : List SendEvent) (e : SendEvent) (b : Block) → IsAllowed n planned h e → place (claims_of n h) b ≡ Confirmed → place (claims_of n (h ++ e ∷ [])) b ≡ Confirmed }
+    ensures finished { (n : ℕ) (planned : List Block) (h : List SendEvent) (b : Block) → IsLegal n planned h → (end_of h).has_finish ≡ true → is_among planned b ≡ true → place (claims_of n h) b ≡ Confirmed }
     ensures placed { (n : ℕ) (planned : List Block) (h : List SendEvent) (b : Block) → is_rising planned ≡ true → IsLegal n planned h → count_of b (queued n planned h) + count_kept b (claims_of n h) ≡ count_of b planned }
 {}
 
@@ -55,4 +62,24 @@ pub fn a_sender_speaks_in_turn()
     ensures writes { (s : PlainSender) (l : Lane) (input : SendIn) → l.0 < length s.lanes → FitsLane (lane_at (send_turn s l input).1 l.0) (send_turn s l input).0 }
     ensures stands { (s : PlainSender) (l : Lane) (input : SendIn) (p : Phase) → l.0 < length s.lanes → is_closed s l.0 ≡ false → is_failure s.answer ≡ false → phase_holding (lane_at s l.0) input ≡ Some p → StandsIn p l (send_turn s l input).1 }
     ensures hears { (state : SendState) (ask acked : Bool) (frame : Frame) (q : Phase) → phase_heard frame (phase_by ask acked state) ≡ Some q → is_named (row_of state (Got frame)) ≡ true }
+{}
+
+/// What all lanes have claimed, lane for lane, and what each kind of entry makes of it.
+pub fn claims_follow_the_history()
+    ensures lanes { (n : ℕ) (h : List SendEvent) → length (claims_of n h) ≡ n }
+    ensures at { (n : ℕ) (h : List SendEvent) (l : ℕ) → l < n → slice_index_or (claims_of n h) l no_claims ≡ (past_of h l).claims }
+    ensures none { (n : ℕ) → claims_of n [] ≡ replicate n no_claims }
+    ensures greet { (n : ℕ) (h : List SendEvent) (l : Lane) (count : ℕ) → l.0 < n → claims_of n (h ++ events.Greet l count ∷ []) ≡ slice_set (claims_of n h) l.0 (cut_to count 0 (past_of h l.0).claims) }
+    ensures claim { (n : ℕ) (h : List SendEvent) (l : Lane) (b : Block) → l.0 < n → claims_of n (h ++ events.Claim l b ∷ []) ≡ slice_set (claims_of n h) l.0 (claimed b (past_of h l.0).claims) }
+    ensures sent { (n : ℕ) (h : List SendEvent) (l : Lane) → l.0 < n → claims_of n (h ++ events.Sent l ∷ []) ≡ slice_set (claims_of n h) l.0 (sent (past_of h l.0).claims) }
+    ensures global { (n : ℕ) (h : List SendEvent) (k l : Lane) (count : ℕ) → l.0 < n → claims_of n (h ++ events.Global k l count ∷ []) ≡ slice_set (claims_of n h) l.0 (close_by (past_of h l.0).claims.closed count (past_of h l.0).claims) }
+    ensures finish { (n : ℕ) (h : List SendEvent) (l : Lane) → claims_of n (h ++ events.Finish l ∷ []) ≡ map finished (claims_of n h) }
+    ensures others { (n : ℕ) (h : List SendEvent) (e : SendEvent) → changes_claims e ≡ false → claims_of n (h ++ e ∷ []) ≡ claims_of n h }
+{}
+
+/// A list of files has no place out of order exactly where its paths rise, and two lists differ nowhere
+/// exactly where they are one.
+pub fn file_lists_are_compared()
+    ensures ordered { (files : List HaveFile) → (unordered_at files ≡ None) ↔ (is_in_order files ≡ true) }
+    ensures same { (first later : List HaveFile) → (different_at first later ≡ None) ↔ (first ≡ later) }
 {}

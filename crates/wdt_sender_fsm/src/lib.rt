@@ -24,7 +24,8 @@ pub use answers::{EndAnswer, RefusedKind};
 pub use events::SendEvent;
 pub use inputs::SendIn;
 pub use laws::{
-    a_sender_speaks_in_turn, ends_speak_in_turn, histories_are_sound, worked_steps,
+    a_sender_speaks_in_turn, claims_follow_the_history, ends_speak_in_turn,
+    file_lists_are_compared, histories_are_sound, worked_steps,
 };
 pub use peers::PeerKind;
 pub use rows::{SendRow, allowed, row};

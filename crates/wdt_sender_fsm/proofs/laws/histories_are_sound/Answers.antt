@@ -1,3 +1,4 @@
+use Rattle.wdt_sender_fsm.proofs.Landed.{all_confirmed}
 use Rattle.wdt_sender_fsm.proofs.Confirmed.{stays_confirmed}
 use Rattle.wdt_sender_fsm.proofs.Histories.{legal_sound}
 use Rattle.wdt_sender_fsm.proofs.Placed.{placed_once}
@@ -11,3 +12,6 @@ returns-clause-confirmed c = stays_confirmed
 
 pub returns-clause-placed : goal.returns-clause-placed
 returns-clause-placed c = placed_once
+
+pub returns-clause-finished : goal.returns-clause-finished
+returns-clause-finished c = all_confirmed
