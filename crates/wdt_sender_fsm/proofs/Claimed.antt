@@ -1,5 +1,5 @@
 -- What all lanes have claimed, as a list that an entry changes.
-use Rattle.std.proofs.Common.{◌≡◌, ◌≢◌, ◌⊎◌, ℕ, zero, suc, ◌+◌, ◌<◌, ◌≤◌, ◌==◌, List, [], ◌∷◌, ◌++◌, length, map, get_or, set, replicate, Bool, true, false, if◌then◌else◌, Option, Some, None, subst, sym, ap, ◌∙◌, arith, refl, inl, inr, eq-eqb}
+use Rattle.std.proofs.Common.{◌≡◌, ◌≢◌, ◌⊎◌, ℕ, zero, suc, ◌+◌, ◌<◌, ◌==◌, List, [], ◌∷◌, ◌++◌, length, map, get_or, set, replicate, false, if◌then◌else◌, subst, sym, ap, ◌∙◌, arith, refl, inl, inr, eq-eqb}
 use Rattle.std.proofs.Math.Seq.{get_or-append_seam, set-append_seam}
 use Rattle.std.proofs.lemmas.Bool.{cases_eq, ne_eqb}
 use Rattle.std.proofs.lemmas.List.{get_or_append_left, set-append_left, map-append, replicate-append-replicate, length-append}
@@ -9,7 +9,7 @@ use Rattle.wdt_units.specs.declared.numbers.Lane.{Lane}
 use Rattle.wdt_sender_fsm.specs.declared.events.SendEvent.{SendEvent}
 use Rattle.wdt_sender_fsm.specs.declared.events.SendEvent.TheVariants.{Linked, NoLink, Lost, Greet, Chunks, Claim, Sent, Done, Global, Finish, Acked, Quit, Abort, Peer}
 use Rattle.wdt_sender_fsm.specs.Places.{tabulate, claims_of, changes_claims}
-use Rattle.wdt_sender_fsm.specs.SenderHistory.{past_of, past_of-more, past_of-none, no_past, close_by, claims_after}
+use Rattle.wdt_sender_fsm.specs.SenderHistory.{past_of, past_of-more, past_of-none, close_by, claims_after}
 
 -- ---- lists by numbers
 
@@ -29,7 +29,7 @@ tabulate_at {X} (suc n) f l d within = go (last_or_before n l within) (tabulate_
   go : (l ≡ n) ⊎ (l < n) → (l < n → get_or (tabulate n f) l d ≡ f l) → get_or (tabulate n f ++ f n ∷ []) l d ≡ f l
   go (inl e) rest =
       subst (λ (j : ℕ). get_or (tabulate n f ++ f n ∷ []) j d ≡ f j) (sym e)
-        (subst (λ (j : ℕ). get_or (tabulate n f ++ f n ∷ []) j d ≡ f n) (tabulate_length n f) (get_or-append_seam (tabulate n f) (f n) [] d))
+      (subst (λ (j : ℕ). get_or (tabulate n f ++ f n ∷ []) j d ≡ f n) (tabulate_length n f) (get_or-append_seam (tabulate n f) (f n) [] d))
   go (inr lt) rest = get_or_append_left (tabulate n f) (f n ∷ []) d l (omega (arith, tabulate_length n f, lt)) ∙ rest lt
 
 tabulate_same : {X : Type 0} (n : ℕ) (f g : ℕ → X) → ((l : ℕ) → l < n → g l ≡ f l) → tabulate n g ≡ tabulate n f
@@ -86,7 +86,7 @@ if_not k l x y other = rw (ne_eqb k l (λ e. other (sym e))) refl
 claims_one : (n : ℕ) (h : List SendEvent) (e : SendEvent) (k : ℕ) (make : Claims → Claims) → k < n → ((l : ℕ) (s : Claims) → claims_after l s e ≡ (if k == l then make s else s)) → claims_of n (h ++ e ∷ []) ≡ set (claims_of n h) k (make (at h k))
 claims_one n h e k make within is =
     tabulate_set n k (at h) (at (h ++ e ∷ [])) within (λ l other. at_more h e l ∙ (is l (at h l) ∙ if_not k l (make (at h l)) (at h l) other))
-      ∙ ap (λ s. set (claims_of n h) k s) (at_more h e k ∙ (is k (at h k) ∙ if_yes k (make (at h k)) (at h k)))
+    ∙ ap (λ s. set (claims_of n h) k s) (at_more h e k ∙ (is k (at h k) ∙ if_yes k (make (at h k)) (at h k)))
 
 pub claims_greet : (n : ℕ) (h : List SendEvent) (l : Lane) (count : ℕ) → l.0 < n → claims_of n (h ++ Greet l count ∷ []) ≡ set (claims_of n h) l.0 (cut_to count 0 (past_of h l.0).claims)
 claims_greet n h l count within = claims_one n h (Greet l count) l.0 (cut_to count 0) within (λ k s. refl)

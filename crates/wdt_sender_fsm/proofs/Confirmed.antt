@@ -1,15 +1,15 @@
 -- A block that has surely landed stays so.
-use Rattle.std.proofs.Common.{◌≡◌, ℕ, zero, suc, ◌+◌, ◌<◌, ◌≤◌, ◌==◌, ◌||◌, not, List, [], ◌∷◌, ◌++◌, length, take, Bool, true, false, if◌then◌else◌, Option, Some, None, subst, sym, ap, ◌∙◌, arith, refl, inl, inr, ◌⊎◌}
+use Rattle.std.proofs.Common.{◌≡◌, ℕ, zero, suc, ◌≤◌, ◌||◌, List, [], ◌∷◌, ◌++◌, length, take, Bool, true, false, if◌then◌else◌, Option, Some, None, subst, sym, ap, ◌∙◌, arith, refl}
 use Rattle.std.specs.List.{list_any}
 use Rattle.std.proofs.lemmas.Bool.{or_left, or_right}
 use Rattle.std.proofs.lemmas.List.Folds.{list_any-append}
-use Rattle.wdt_units.specs.LaneWords.{Claims, claimed, sent, cut_to, closed_at, finished}
+use Rattle.wdt_units.specs.LaneWords.{Claims, claimed, sent, cut_to}
 use Rattle.wdt_units.specs.declared.blocks.Block.{Block}
 use Rattle.wdt_sender_fsm.specs.declared.events.SendEvent.{SendEvent}
 use Rattle.wdt_sender_fsm.specs.declared.events.SendEvent.TheVariants.{Linked, NoLink, Lost, Greet, Chunks, Claim, Sent, Done, Global, Finish, Acked, Quit, Abort, Peer}
-use Rattle.wdt_sender_fsm.specs.Legal.{IsAllowed, IsWithin, Tells, TellsBy}
-use Rattle.wdt_sender_fsm.specs.Places.{tabulate, claims_of, is_same_block, is_among, keeps, confirms, holds, is_queued, place, Standing, Queued, Held, Unconfirmed, Confirmed}
-use Rattle.wdt_sender_fsm.specs.SenderHistory.{past_of, past_of-more, past_after, close_by, claims_after}
+use Rattle.wdt_sender_fsm.specs.Legal.{IsAllowed, Tells, TellsBy}
+use Rattle.wdt_sender_fsm.specs.Places.{tabulate, claims_of, is_same_block, is_among, keeps, confirms, holds, is_queued, place, Queued, Held, Unconfirmed, Confirmed}
+use Rattle.wdt_sender_fsm.specs.SenderHistory.{past_of, past_of-more, close_by, claims_after}
 use Rattle.wdt_sender_fsm.proofs.Histories.{if_same}
 
 -- ---- among the first of a list
@@ -109,10 +109,10 @@ any_same : (p : Claims → Bool) (n : ℕ) (f g : ℕ → Claims) → ((l : ℕ)
 any_same p zero f g keeps is = is
 any_same p (suc n) f g keeps is =
     any_last p (tabulate n g) (g n) ∙ go (list_any p (tabulate n f)) (p (f n)) (any_same p n f g keeps) (keeps n) (sym (any_last p (tabulate n f) (f n)) ∙ is) where
-  go : (a c : Bool) → (a ≡ true → list_any p (tabulate n g) ≡ true) → (c ≡ true → p (g n) ≡ true) → (a || c) ≡ true → (list_any p (tabulate n g) || p (g n)) ≡ true
-  go true c i j e = or_left _ _ (i refl)
-  go false true i j e = or_right _ _ (j refl)
-  go false false i j e = false_true e
+      go : (a c : Bool) → (a ≡ true → list_any p (tabulate n g) ≡ true) → (c ≡ true → p (g n) ≡ true) → (a || c) ≡ true → (list_any p (tabulate n g) || p (g n)) ≡ true
+      go true c i j e = or_left _ _ (i refl)
+      go false true i j e = or_right _ _ (j refl)
+      go false false i j e = false_true e
 
 any_more : {X : Type 0} (p q : X → Bool) (xs : List X) → ((x : X) → p x ≡ true → q x ≡ true) → list_any p xs ≡ true → list_any q xs ≡ true
 any_more p q [] f is = is

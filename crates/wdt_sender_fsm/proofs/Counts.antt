@@ -1,8 +1,7 @@
 -- How often a block stands in the queue and in the lanes' lists: as often as in the plan.
-use Rattle.std.proofs.Common.{◌≡◌, ◌≢◌, ◌⊎◌, ℕ, zero, suc, ◌+◌, ◌<◌, ◌≤◌, ◌==◌, ◌||◌, ◌&&◌, not, List, [], ◌∷◌, ◌++◌, length, take, filter, Bool, true, false, cond, if◌then◌else◌, Option, Some, None, subst, sym, ap, ◌∙◌, arith, refl, inl, inr, eq-eqb}
-use Rattle.std.specs.List.{list_any, list_all}
-use Rattle.std.proofs.lemmas.Bool.{cases_eq, ne_eqb, and_parts, or_left, or_right, or_parts}
-use Rattle.wdt_units.specs.LaneWords.{Claims, claimed, sent, cut_to, closed_at, finished}
+use Rattle.std.proofs.Common.{◌≡◌, ◌≢◌, ◌⊎◌, ℕ, zero, suc, ◌+◌, ◌≤◌, ◌||◌, List, [], ◌∷◌, ◌++◌, take, Bool, true, false, cond, subst, sym, arith, refl, inl, inr, eq-eqb}
+use Rattle.std.specs.List.{list_all}
+use Rattle.std.proofs.lemmas.Bool.{cases_eq, and_parts, or_parts}
 use Rattle.wdt_units.specs.declared.blocks.Block.{Block}
 use Rattle.wdt_tree.specs.Rest.{is_earlier, is_rising}
 use Rattle.std.proofs.lemmas.List.Recursion.{is_count_by}
@@ -76,9 +75,9 @@ rising_once b [] rising = omega arith
 rising_once b (x ∷ xs) rising =
     let parts = and_parts (list_all (is_earlier x) xs) (is_rising xs) rising in
     go (is_same_block b x) refl (rising_once b xs parts.1) parts.0 where
-  go : (same : Bool) → is_same_block b x ≡ same → tally b xs ≤ 1 → list_all (is_earlier x) xs ≡ true → one_if same + tally b xs ≤ 1
-  go true is once all = omega (arith, count_none b xs (later_none x b xs is all))
-  go false is once all = omega (arith, once)
+      go : (same : Bool) → is_same_block b x ≡ same → tally b xs ≤ 1 → list_all (is_earlier x) xs ≡ true → one_if same + tally b xs ≤ 1
+      go true is once all = omega (arith, count_none b xs (later_none x b xs is all))
+      go false is once all = omega (arith, once)
 
 -- ---- sums over the lanes below n
 
@@ -102,6 +101,6 @@ total_one (suc n) k f g below one = go (one_apart n k) (total_one n k f g below 
 
   go : (n ≡ k) ⊎ (n ≢ k) → total n g ≤ total n f + 1 → total (suc n) g ≤ total (suc n) f + 1
   go (inl e) rest =
-    let here : g n ≤ f n + 1 = subst (λ (j : ℕ). g j ≤ f j + 1) (sym e) one in
-    omega (arith, lower n (omega (arith, e)), here)
+      let here : g n ≤ f n + 1 = subst (λ (j : ℕ). g j ≤ f j + 1) (sym e) one in
+      omega (arith, lower n (omega (arith, e)), here)
   go (inr ne) rest = omega (arith, rest, below n ne)

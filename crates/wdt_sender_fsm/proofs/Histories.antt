@@ -1,14 +1,14 @@
 -- Induction over legal histories, and what they say of a lane.
-use Rattle.std.proofs.Common.{◌≡◌, ◌⊎◌, ◌≢◌, ℕ, zero, suc, ◌+◌, ◌<◌, ◌≤◌, ◌==◌, min, List, [], ◌∷◌, ◌++◌, length, take, Bool, true, false, if◌then◌else◌, Option, Some, None, subst, sym, ap, ◌∙◌, arith, refl, inl, inr, append_assoc, append-nil, eq-eqb}
+use Rattle.std.proofs.Common.{◌≡◌, ◌⊎◌, ◌≢◌, ℕ, ◌+◌, ◌<◌, ◌≤◌, ◌==◌, List, [], ◌∷◌, ◌++◌, length, take, true, false, if◌then◌else◌, Option, Some, None, subst, sym, ◌∙◌, arith, refl, inl, inr, append_assoc, append-nil, eq-eqb}
 use Rattle.std.proofs.lemmas.Bool.{cases_eq, ne_eqb}
 use Rattle.std.proofs.lemmas.List.{length-take-le, length-append}
 use Rattle.std.proofs.lemmas.Option.{same_Some}
-use Rattle.wdt_units.specs.LaneWords.{Claims, no_claims, claimed, sent, cut_to, closed_at, finished}
+use Rattle.wdt_units.specs.LaneWords.{Claims, claimed, sent, cut_to, closed_at, finished}
 use Rattle.wdt_units.specs.declared.blocks.Block.{Block}
 use Rattle.wdt_sender_fsm.specs.declared.events.SendEvent.{SendEvent}
 use Rattle.wdt_sender_fsm.specs.declared.events.SendEvent.TheVariants.{Linked, NoLink, Lost, Greet, Chunks, Claim, Sent, Done, Global, Finish, Acked, Quit, Abort, Peer}
-use Rattle.wdt_sender_fsm.specs.Legal.{IsAllowed, IsLegal, IsSound, IsWithin, Tells, TellsBy, legal_from}
-use Rattle.wdt_sender_fsm.specs.SenderHistory.{LanePast, past_of, past_of-more, past_of-none, past_after, close_by, claims_after, connections_after, failed_tries_after}
+use Rattle.wdt_sender_fsm.specs.Legal.{IsAllowed, IsLegal, IsSound, Tells, TellsBy, legal_from}
+use Rattle.wdt_sender_fsm.specs.SenderHistory.{past_of, past_of-more, past_of-none, close_by, claims_after, connections_after, failed_tries_after}
 
 -- ---- induction
 
@@ -102,29 +102,36 @@ Few n = n ≤ 8
 connections_few : (n : ℕ) (planned : List Block) (b : List SendEvent) (e : SendEvent) (l : ℕ) → Few (past_of b l).connections → IsAllowed n planned b e → Few (connections_after l (past_of b l).connections e)
 connections_few n planned b (Linked k c) l few is =
     if_same Few k.0 l ((past_of b l).connections + 1) (past_of b l).connections
-      (λ e. subst (λ (j : ℕ). (past_of b j).connections + 1 ≤ 8) e (subst Few is.1.0 is.1.1)) few
+    (λ e. subst (λ (j : ℕ). (past_of b j).connections + 1 ≤ 8) e (subst Few is.1.0 is.1.1)) few
 connections_few n planned b _ l few is = few
 
 tries_few : (n : ℕ) (planned : List Block) (b : List SendEvent) (e : SendEvent) (l : ℕ) → Few (past_of b l).failed_tries → IsAllowed n planned b e → Few (failed_tries_after l (past_of b l).failed_tries e)
 tries_few n planned b (NoLink k) l few is =
     if_same Few k.0 l ((past_of b l).failed_tries + 1) (past_of b l).failed_tries
-      (λ e. subst (λ (j : ℕ). (past_of b j).failed_tries + 1 ≤ 8) e (omega (arith, is.1))) few
+    (λ e. subst (λ (j : ℕ). (past_of b j).failed_tries + 1 ≤ 8) e (omega (arith, is.1))) few
 tries_few n planned b _ l few is = few
 
 -- ---- all of it
 
 none_sound : (l : ℕ) → IsSound (past_of [] l)
 none_sound l = subst IsSound (sym (past_of-none l)) record {
-    sure = omega arith; held = λ h. not_held h; closed = λ n c. not_closed None n refl c; connections = omega arith; failed_tries = omega arith
-  }
+  sure = omega arith;
+  held = λ h. not_held h;
+  closed = λ n c. not_closed None n refl c;
+  connections = omega arith;
+  failed_tries = omega arith;
+}
 
 step_sound : (n : ℕ) (planned : List Block) (b : List SendEvent) (e : SendEvent) → ((l : ℕ) → IsSound (past_of b l)) → IsAllowed n planned b e → (l : ℕ) → IsSound (past_of (b ++ e ∷ []) l)
 step_sound n planned b e sound is l =
     let old = sound l in
     let new = claims_sound n planned b e l record { sure = old.sure; held = old.held; closed = old.closed } is in
     subst IsSound (sym (past_of-more b e l)) record {
-      sure = new.sure; held = new.held; closed = new.closed;
-      connections = connections_few n planned b e l old.connections is; failed_tries = tries_few n planned b e l old.failed_tries is;
+      sure = new.sure;
+      held = new.held;
+      closed = new.closed;
+      connections = connections_few n planned b e l old.connections is;
+      failed_tries = tries_few n planned b e l old.failed_tries is;
     }
 
 pub legal_sound : (n : ℕ) (planned : List Block) (h : List SendEvent) (l : ℕ) → IsLegal n planned h → IsSound (past_of h l)

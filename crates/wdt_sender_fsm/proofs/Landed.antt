@@ -1,14 +1,14 @@
 -- Once a lane read the receiver's last word, each block of the plan has surely landed.
-use Rattle.std.proofs.Common.{◌≡◌, ◌≢◌, ◌⊎◌, ℕ, zero, suc, ◌+◌, ◌<◌, ◌≤◌, ◌==◌, ◌||◌, not, List, [], ◌∷◌, ◌++◌, length, take, filter, Bool, true, false, cond, if◌then◌else◌, Option, Some, None, subst, sym, ap, ◌∙◌, arith, refl, inl, inr}
+use Rattle.std.proofs.Common.{◌≡◌, ℕ, zero, suc, ◌<◌, ◌||◌, not, List, [], ◌∷◌, ◌++◌, length, take, filter, Bool, true, false, cond, Option, Some, None, subst, sym, ap, ◌∙◌, arith, refl}
 use Rattle.std.specs.List.{list_any}
 use Rattle.std.proofs.Math.Seq.{take-length}
 use Rattle.std.proofs.lemmas.Bool.{or_left, or_right}
-use Rattle.wdt_units.specs.LaneWords.{Claims, claimed, sent, cut_to, closed_at, finished}
+use Rattle.wdt_units.specs.LaneWords.{Claims, sent, cut_to, closed_at}
 use Rattle.wdt_units.specs.declared.blocks.Block.{Block}
 use Rattle.wdt_sender_fsm.specs.declared.events.SendEvent.{SendEvent}
 use Rattle.wdt_sender_fsm.specs.declared.events.SendEvent.TheVariants.{Linked, NoLink, Lost, Greet, Chunks, Claim, Sent, Done, Global, Finish, Acked, Quit, Abort, Peer}
 use Rattle.wdt_sender_fsm.specs.Legal.{IsAllowed, IsLegal, IsWithin, Tells, TellsBy}
-use Rattle.wdt_sender_fsm.specs.Places.{tabulate, claims_of, planned_now, planned_now-is, is_among, keeps, confirms, is_queued, queue_of, is_same_block, queued, least_of, place, Confirmed}
+use Rattle.wdt_sender_fsm.specs.Places.{tabulate, claims_of, planned_now-is, is_among, keeps, confirms, is_queued, queue_of, is_same_block, queued, least_of, place, Confirmed}
 use Rattle.wdt_sender_fsm.specs.SenderHistory.{past_of, past_of-more, end_of, end_of-more, end_of-none, close_by, claims_after}
 use Rattle.wdt_sender_fsm.proofs.Confirmed.{any_last, confirmed_by}
 use Rattle.wdt_sender_fsm.proofs.Counts.{same_block}
@@ -33,8 +33,8 @@ at h l = (past_of h l).claims
 queued_same : (n : ℕ) (planned : List Block) (h k : List SendEvent) → ((l : ℕ) → l < n → (at k l).kept ≡ (at h l).kept) → queued n planned k ≡ queued n planned h
 queued_same n planned h k same =
     ap (λ p. queue_of p (claims_of n k)) (planned_now-is planned k)
-      ∙ (filter_same (is_queued (claims_of n k)) (is_queued (claims_of n h)) planned (λ b. ap not (any_kept b n (at h) (at k) same))
-      ∙ ap (λ p. queue_of p (claims_of n h)) (sym (planned_now-is planned h)))
+    ∙ (filter_same (is_queued (claims_of n k)) (is_queued (claims_of n h)) planned (λ b. ap not (any_kept b n (at h) (at k) same))
+    ∙ ap (λ p. queue_of p (claims_of n h)) (sym (planned_now-is planned h)))
 
 -- ---- one entry
 
@@ -88,9 +88,9 @@ after_is h e l = ap (λ x. x.claims) (past_of-more h e l)
 
 landed_with : (n : ℕ) (planned : List Block) (h : List SendEvent) (e : SendEvent) → queued n planned h ≡ [] → ((l : ℕ) → Keeps (at h l) (claims_after l (at h l) e)) → HasLanded n planned (h ++ e ∷ [])
 landed_with n planned h e none keep = record {
-    none = queued_same n planned h (h ++ e ∷ []) (λ l lt. ap (λ s. s.kept) (after_is h e l) ∙ (keep l).same) ∙ none;
-    sure = λ l. subst (λ (s : Claims). s.sure ≡ length s.kept) (sym (after_is h e l)) (keep l).sure;
-  }
+  none = queued_same n planned h (h ++ e ∷ []) (λ l lt. ap (λ s. s.kept) (after_is h e l) ∙ (keep l).same) ∙ none;
+  sure = λ l. subst (λ (s : Claims). s.sure ≡ length s.kept) (sym (after_is h e l)) (keep l).sure;
+}
 
 finish_landed : (n : ℕ) (planned : List Block) (h : List SendEvent) (e : SendEvent) → IsAllowed n planned h e → (end_of (h ++ e ∷ [])).has_finish ≡ true → ((end_of h).has_finish ≡ true → HasLanded n planned h) → HasLanded n planned (h ++ e ∷ [])
 finish_landed n planned h (Finish k) allowed is before = landed_with n planned h (Finish k) allowed.1.1 (λ l. record { same = refl; sure = refl })
@@ -107,7 +107,7 @@ false_true e = cc
 legal_lands : (n : ℕ) (planned : List Block) (h : List SendEvent) → IsLegal n planned h → Lands n planned h
 legal_lands n planned h legal =
     of_legal n planned (Lands n planned) (λ is. false_true (sym (ap (λ x. x.has_finish) end_of-none) ∙ is))
-      (λ b e before allowed is. finish_landed n planned b e allowed is before) h legal
+    (λ b e before allowed is. finish_landed n planned b e allowed is before) h legal
 
 -- ---- the law
 
@@ -135,13 +135,13 @@ any_confirms : (b : Block) (n : ℕ) (f : ℕ → Claims) → ((l : ℕ) → (f 
 any_confirms b zero f sure some = some
 any_confirms b (suc n) f sure some =
     any_last (confirms b) (tabulate n f) (f n) ∙ go (list_any (keeps b) (tabulate n f)) (any_confirms b n f sure) (keeps b (f n)) whole (sym (any_last (keeps b) (tabulate n f) (f n)) ∙ some) where
-  whole : keeps b (f n) ≡ true → confirms b (f n) ≡ true
-  whole is = ap (λ xs. is_among xs b) (ap (λ m. take m (f n).kept) (sure n) ∙ take-length (f n).kept) ∙ is
+      whole : keeps b (f n) ≡ true → confirms b (f n) ≡ true
+      whole is = ap (λ xs. is_among xs b) (ap (λ m. take m (f n).kept) (sure n) ∙ take-length (f n).kept) ∙ is
 
-  go : (a : Bool) → (a ≡ true → list_any (confirms b) (tabulate n f) ≡ true) → (c : Bool) → (c ≡ true → confirms b (f n) ≡ true) → (a || c) ≡ true → (list_any (confirms b) (tabulate n f) || confirms b (f n)) ≡ true
-  go true i c j e = or_left _ _ (i refl)
-  go false i true j e = or_right _ _ (j refl)
-  go false i false j e = false_true e
+      go : (a : Bool) → (a ≡ true → list_any (confirms b) (tabulate n f) ≡ true) → (c : Bool) → (c ≡ true → confirms b (f n) ≡ true) → (a || c) ≡ true → (list_any (confirms b) (tabulate n f) || confirms b (f n)) ≡ true
+      go true i c j e = or_left _ _ (i refl)
+      go false i true j e = or_right _ _ (j refl)
+      go false i false j e = false_true e
 
 -- once a lane read the receiver's last word, each block of the plan is confirmed
 pub all_confirmed : (n : ℕ) (planned : List Block) (h : List SendEvent) (b : Block) → IsLegal n planned h → (end_of h).has_finish ≡ true → is_among planned b ≡ true → place (claims_of n h) b ≡ Confirmed

@@ -6,6 +6,7 @@ pub mod Landed
 pub mod Lists
 pub mod Phases
 pub mod Placed
+pub mod Queue
 pub mod Speaks
 pub mod Stands
 pub mod Steps

@@ -1,10 +1,8 @@
 -- What the two ends of a connection say in turn: no phase is both ends', and a block's pieces lead
 -- through it.
-use Rattle.std.proofs.Common.{◌≡◌, ℕ, zero, suc, ◌+◌, ◌-◌, ◌*◌, ◌/◌, ◌<◌, ◌≤◌, ◌==◌, min, List, [], ◌∷◌, ◌++◌, Bool, true, false, if◌then◌else◌, Option, Some, None, subst, sym, ap, ◌∙◌, arith, refl, eq-eqb}
+use Rattle.std.proofs.Common.{◌≡◌, ℕ, zero, suc, ◌-◌, ◌*◌, ◌<◌, ◌≤◌, min, Some, ap, ◌∙◌, arith, refl, eq-eqb}
 use Rattle.std.proofs.lemmas.Bool.{ne_eqb}
-use Rattle.wdt_codec.specs.declared.frames.Frame.{Frame}
-use Rattle.wdt_codec.specs.declared.frames.Frame.TheVariants as frames
-use Rattle.wdt_sender_fsm.specs.Phases.{Phase, Open, Met, Listing, Told, Sending, Mid, Asked, Bye, Over, Message, Framed, Piece, down, up, with_left, piece_from, pieces_in, piece_at, pieces_of}
+use Rattle.wdt_sender_fsm.specs.Phases.{Open, Met, Listing, Told, Sending, Mid, Asked, Bye, Over, Piece, down, up, with_left, pieces_in, piece_at, pieces_of}
 use Rattle.wdt_sender_fsm.specs.Places.{tabulate}
 use Rattle.wdt_sender_fsm.specs.Talk.{moved, OneTalker}
 use Rattle.wdt_sender_fsm.proofs.Talk.{moved-more}
@@ -34,8 +32,8 @@ pieces_move n zero within = ap (λ left. Some (with_left left)) (omega arith)
 pieces_move n (suc k) within =
     let some : 65536 * k < n = omega (arith, within) in
     moved-more down (with_left n) (tabulate k (piece_at n)) (with_left (n - 65536 * k)) (with_left (n - 65536 * suc k)) (piece_at n k)
-      (pieces_move n k (omega (arith, within)))
-      (piece_moves (n - 65536 * k) (omega (arith, some)) ∙ ap (λ left. Some (with_left left)) (left_behind n k some))
+    (pieces_move n k (omega (arith, within)))
+    (piece_moves (n - 65536 * k) (omega (arith, some)) ∙ ap (λ left. Some (with_left left)) (left_behind n k some))
 
 -- all of them lead to the next block
 pub pieces_lead : (n : ℕ) → moved down (pieces_of n) (with_left n) ≡ Some Sending

@@ -1,17 +1,17 @@
 -- Each block of the plan stands once: in the queue, or in one lane's list.
-use Rattle.std.proofs.Common.{◌≡◌, ◌≢◌, ◌⊎◌, ℕ, zero, suc, ◌+◌, ◌<◌, ◌≤◌, ◌==◌, ◌||◌, not, List, [], ◌∷◌, ◌++◌, length, take, filter, Bool, true, false, cond, if◌then◌else◌, Option, Some, None, subst, sym, ap, ◌∙◌, arith, refl, inl, inr}
+use Rattle.std.proofs.Common.{◌≡◌, ◌≢◌, ℕ, zero, suc, ◌+◌, ◌≤◌, ◌==◌, ◌||◌, not, List, [], ◌∷◌, ◌++◌, filter, Bool, true, false, cond, if◌then◌else◌, Option, Some, None, subst, sym, ap, ◌∙◌, arith, refl}
 use Rattle.std.specs.List.{list_any}
 use Rattle.std.proofs.lemmas.Bool.{or_parts}
 use Rattle.std.proofs.lemmas.Option.{same_Some}
 use Rattle.std.proofs.lemmas.List.Sums.{sum_by-append}
-use Rattle.wdt_units.specs.LaneWords.{Claims, claimed, sent, cut_to, closed_at, finished}
+use Rattle.wdt_units.specs.LaneWords.{Claims, claimed, sent, cut_to}
 use Rattle.wdt_units.specs.declared.blocks.Block.{Block}
 use Rattle.wdt_tree.specs.Rest.{is_rising}
 use Rattle.wdt_sender_fsm.specs.declared.events.SendEvent.{SendEvent}
 use Rattle.wdt_sender_fsm.specs.declared.events.SendEvent.TheVariants.{Linked, NoLink, Lost, Greet, Chunks, Claim, Sent, Done, Global, Finish, Acked, Quit, Abort, Peer}
 use Rattle.wdt_sender_fsm.specs.Legal.{IsAllowed, IsLegal}
-use Rattle.wdt_sender_fsm.specs.Places.{tabulate, claims_of, planned_now, planned_now-is, is_same_block, is_among, keeps, is_queued, queue_of, queued, least_of, count_of, count_in as count_in_lane, count_kept}
-use Rattle.wdt_sender_fsm.specs.SenderHistory.{past_of, past_of-more, past_of-none, no_past, close_by, claims_after}
+use Rattle.wdt_sender_fsm.specs.Places.{tabulate, claims_of, planned_now-is, is_same_block, is_among, keeps, is_queued, queue_of, queued, least_of, count_of, count_in as count_in_lane, count_kept}
+use Rattle.wdt_sender_fsm.specs.SenderHistory.{past_of, past_of-more, past_of-none, close_by, claims_after}
 use Rattle.wdt_sender_fsm.proofs.Confirmed.{any_last}
 use Rattle.wdt_sender_fsm.proofs.Counts.{one_if, tally, tally_is, count_append, count_take, count_none, count_some, same_block, same_self, rising_once, total, total_below, total_one}
 use Rattle.wdt_sender_fsm.proofs.Histories.{of_legal, if_same}
@@ -24,9 +24,9 @@ first_passes p [] x is = cc
 first_passes p (y ∷ ys) x is = go (p y) refl (first_passes p ys x) is where
   go : (b : Bool) → p y ≡ b → (least_of (filter p ys) ≡ Some x → (p x ≡ true) × (is_among ys x ≡ true)) → least_of (cond b (y ∷ filter p ys) (filter p ys)) ≡ Some x → (p x ≡ true) × (is_among (y ∷ ys) x ≡ true)
   go true e f i =
-    let same : y ≡ x = same_Some y x i in
-    (subst (λ (z : Block). p z ≡ true) same e, rw (subst (λ (z : Block). is_same_block x z ≡ true) (sym same) (same_self x)) refl)
-  go false e f i = let rest = f i in (rest.0, either (is_same_block x y) rest.1)  where
+      let same : y ≡ x = same_Some y x i in
+      (subst (λ (z : Block). p z ≡ true) same e, rw (subst (λ (z : Block). is_same_block x z ≡ true) (sym same) (same_self x)) refl)
+  go false e f i = let rest = f i in (rest.0, either (is_same_block x y) rest.1) where
     either : (b : Bool) → is_among ys x ≡ true → (b || is_among ys x) ≡ true
     either true r = refl
     either false r = r
@@ -74,10 +74,10 @@ total_some : (b : Block) (n : ℕ) (f : ℕ → Claims) → list_any (keeps b) (
 total_some b zero f some = cc
 total_some b (suc n) f some =
     go (list_any (keeps b) (tabulate n f)) (total_some b n f) (keeps b (f n)) (count_some b (f n).kept) (sym (any_last (keeps b) (tabulate n f) (f n)) ∙ some) where
-  go : (a : Bool) → (a ≡ true → 1 ≤ total n (count_in b f)) → (c : Bool) → (c ≡ true → 1 ≤ tally b (f n).kept) → (a || c) ≡ true → 1 ≤ total (suc n) (count_in b f)
-  go true i c j e = omega (arith, i refl)
-  go false i true j e = omega (arith, j refl)
-  go false i false j e = cc
+      go : (a : Bool) → (a ≡ true → 1 ≤ total n (count_in b f)) → (c : Bool) → (c ≡ true → 1 ≤ tally b (f n).kept) → (a || c) ≡ true → 1 ≤ total (suc n) (count_in b f)
+      go true i c j e = omega (arith, i refl)
+      go false i true j e = omega (arith, j refl)
+      go false i false j e = cc
 
 not_any : (a : Bool) → not a ≡ true → a ≡ false
 not_any true e = cc
@@ -154,19 +154,19 @@ claim_once n planned h k x g is least once b = go (is_same_block b x) refl where
 
   go : (same : Bool) → is_same_block b x ≡ same → total n (count_in b g) ≤ tally b planned
   go true e =
-    let same : b ≡ x = same_block b x e in
-    let most = total_one n k (count_in b (claims_in h)) (count_in b g) other (subst (λ (s : Bool). count_in b g k ≤ count_in b (claims_in h) k + one_if s) e (more k)) in
-    let none : total n (count_in b (claims_in h)) ≡ 0 = total_none b n (claims_in h) (subst (λ (y : Block). list_any (keeps y) (claims_of n h) ≡ false) (sym same) (not_any (list_any (keeps x) (claims_of n h)) waits.0)) in
-    let there : 1 ≤ tally b planned = count_some b planned (subst (λ (y : Block). is_among planned y ≡ true) (sym same) waits.1) in
-    omega (arith, most, none, there)
+      let same : b ≡ x = same_block b x e in
+      let most = total_one n k (count_in b (claims_in h)) (count_in b g) other (subst (λ (s : Bool). count_in b g k ≤ count_in b (claims_in h) k + one_if s) e (more k)) in
+      let none : total n (count_in b (claims_in h)) ≡ 0 = total_none b n (claims_in h) (subst (λ (y : Block). list_any (keeps y) (claims_of n h) ≡ false) (sym same) (not_any (list_any (keeps x) (claims_of n h)) waits.0)) in
+      let there : 1 ≤ tally b planned = count_some b planned (subst (λ (y : Block). is_among planned y ≡ true) (sym same) waits.1) in
+      omega (arith, most, none, there)
   go false e =
-    let below = total_below n (count_in b (claims_in h)) (count_in b g) (λ l. omega (arith, subst (λ (s : Bool). count_in b g l ≤ count_in b (claims_in h) l + one_if s) e (more l))) in
-    omega (arith, below, once b)
+      let below = total_below n (count_in b (claims_in h)) (count_in b g) (λ l. omega (arith, subst (λ (s : Bool). count_in b g l ≤ count_in b (claims_in h) l + one_if s) e (more l))) in
+      omega (arith, below, once b)
 
 step_once : (n : ℕ) (planned : List Block) (h : List SendEvent) (e : SendEvent) → Once n planned h → IsAllowed n planned h e → Once n planned (h ++ e ∷ [])
 step_once n planned h (Claim k x) once allowed =
     claim_once n planned h k.0 x (claims_in (h ++ Claim k x ∷ [])) (λ c l. after_is c h (Claim k x) l)
-      (subst (λ (p : List Block). least_of (queue_of p (claims_of n h)) ≡ Some x) (planned_now-is planned h) allowed.1.1) once
+    (subst (λ (p : List Block). least_of (queue_of p (claims_of n h)) ≡ Some x) (planned_now-is planned h) allowed.1.1) once
 step_once n planned h (Linked k c) once allowed = others_once n planned h (Linked k c) (λ z. z) once
 step_once n planned h (NoLink k) once allowed = others_once n planned h (NoLink k) (λ z. z) once
 step_once n planned h (Lost k) once allowed = others_once n planned h (Lost k) (λ z. z) once
@@ -203,4 +203,4 @@ pub placed_once : (n : ℕ) (planned : List Block) (h : List SendEvent) (b : Blo
 placed_once n planned h b rising legal =
     let placed = placed_by n planned h b (rising_once b planned rising) (legal_once n planned h legal) (is_queued (claims_of n h) b) refl in
     subst (λ (p : List Block). count_of b (queue_of p (claims_of n h)) + count_kept b (claims_of n h) ≡ count_of b planned) (sym (planned_now-is planned h))
-      (omega (arith, placed, tally_is b (queue_of planned (claims_of n h)), tally_is b planned))
+    (omega (arith, placed, tally_is b (queue_of planned (claims_of n h)), tally_is b planned))

@@ -2,14 +2,11 @@
 use Rattle.std.proofs.Common.{◌≡◌, ℕ, ◌<◌, ◌==◌, List, [], ◌∷◌, length, Bool, true, false, not, Option, Some, None, subst, sym, refl, inl, inr, is_some}
 use Rattle.wdt_units.specs.Have.{HaveFile}
 use Rattle.wdt_units.specs.declared.blocks.Block.{Block}
-use Rattle.wdt_units.specs.declared.numbers.Conn.{Conn}
 use Rattle.wdt_units.specs.declared.numbers.Lane.{Lane}
-use Rattle.wdt_codec.specs.declared.frames.Frame.{Frame}
 use Rattle.wdt_codec.specs.declared.frames.Frame.TheVariants as frames
 use Rattle.wdt_codec.specs.declared.frames.Mark.{Mark}
 use Rattle.wdt_sender_fsm.specs.declared.acts.SendAct.{SendAct}
 use Rattle.wdt_sender_fsm.specs.declared.acts.SendAct.TheVariants as acts
-use Rattle.wdt_sender_fsm.specs.declared.answers.EndAnswer.{EndAnswer}
 use Rattle.wdt_sender_fsm.specs.declared.answers.EndAnswer.TheVariants as answers
 use Rattle.wdt_sender_fsm.specs.declared.answers.RefusedKind.{RefusedKind}
 use Rattle.wdt_sender_fsm.specs.declared.events.SendEvent.TheVariants as events
@@ -25,7 +22,7 @@ use Rattle.wdt_sender_fsm.specs.Phases.{FitsLane}
 use Rattle.wdt_sender_fsm.specs.PlainSender.{PlainSender, lane_at, state_at, past_at, is_closed, least_queued, unfinished_blocks, settings_of, size_of_tree, header_of, noted, with_lane, goes, failed}
 use Rattle.wdt_sender_fsm.specs.Rows.{Row, Over, Starved, Stray, Aborted, BadFrame, SourceLost, Unexpected, Begin, NotLinked, Linked, Dropped, SettingsWritten, Greeted, DoneAtOnce, Listed, SizeWritten, BlockWritten, DoneWritten, Waits, Marked, Finished, Answered, AbortWritten, row_of, is_mute}
 use Rattle.wdt_sender_fsm.specs.Rules.{is_failure}
-use Rattle.wdt_sender_fsm.specs.Turn.{Step, rests, leaves, tells_failure, gives_up, fails_with, faults, writes, redial_by, redial, next_conn, is_used_up, introduces, writes_size, greeted_by, greeted_with, greeted_for, listed_again, with_plan, planned_by, listed_after, listed_in, next_by, next, globals, marked_with, marked_for, finished_with, finished, finished_at_once, turn_row, is_over, after_starving, ruled, send_turn}
+use Rattle.wdt_sender_fsm.specs.Turn.{Step, rests, leaves, tells_failure, gives_up, faults, writes, redial_by, next_conn, is_used_up, writes_size, greeted_by, greeted_with, greeted_for, listed_again, with_plan, planned_by, listed_after, listed_in, next_by, next, globals, marked_with, marked_for, finished, finished_at_once, turn_row, is_over, after_starving, ruled, send_turn}
 use Rattle.wdt_sender_fsm.proofs.Phases.{pieces_lead}
 use Rattle.wdt_sender_fsm.proofs.Steps.{lane_set, voice_has, if_has, rules_have}
 
@@ -97,8 +94,8 @@ marks_for s l ms false within = marks_with s l ms (marks_fault s.history ms) wit
 finishes : (s : PlainSender) (l : Lane) (row : Row) → l.0 < length s.lanes → StepFits l (finished s l row)
 finishes s l row within =
     if_has (StepFits l) (unfinished_blocks s == 0) (writes (goes (noted s (events.Finish l ∷ [])) l states.AnswerDone) frames.Done) (faults s l row (peers.EarlyDone (unfinished_blocks s)))
-      (wrote (noted s (events.Finish l ∷ [])) l (in_state s l states.AnswerDone) (acts.Write frames.Done) within (inr refl))
-      (gave_up (failed (noted s (events.Peer l (peers.EarlyDone (unfinished_blocks s)) ∷ [])) (answers.Peer (peers.EarlyDone (unfinished_blocks s)))) l row)
+    (wrote (noted s (events.Finish l ∷ [])) l (in_state s l states.AnswerDone) (acts.Write frames.Done) within (inr refl))
+    (gave_up (failed (noted s (events.Peer l (peers.EarlyDone (unfinished_blocks s)) ∷ [])) (answers.Peer (peers.EarlyDone (unfinished_blocks s)))) l row)
 
 finishes_at_once : (s : PlainSender) (l : Lane) (b : Bool) → l.0 < length s.lanes → StepFits l (finished_at_once s l b)
 finishes_at_once s l true within = finishes s l DoneAtOnce within
@@ -132,7 +129,7 @@ row_fits s l AbortWritten within = tt
 ruled_fits : (s : PlainSender) (l : Lane) (row : Row) → l.0 < length s.lanes → StepFits l (ruled s l row)
 ruled_fits s l row within =
     rules_have (StepFits l) (is_over row) (is_closed s l.0) (is_failure s.answer) (rests s) (leaves s l) (gives_up s l row) (turn_row s l row)
-      tt tt (gave_up s l row) (row_fits s l row within)
+    tt tt (gave_up s l row) (row_fits s l row within)
 
 starved_length : (s : PlainSender) (row : Row) → length (after_starving s row).lanes ≡ length s.lanes
 starved_length s (Starved mute) = refl

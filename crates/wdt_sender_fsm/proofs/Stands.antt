@@ -8,7 +8,6 @@ use Rattle.wdt_codec.specs.declared.frames.Frame.{Frame}
 use Rattle.wdt_codec.specs.declared.frames.Frame.TheVariants as frames
 use Rattle.wdt_codec.specs.declared.frames.Mark.{Mark}
 use Rattle.wdt_sender_fsm.specs.declared.answers.RefusedKind.{RefusedKind}
-use Rattle.wdt_sender_fsm.specs.declared.events.SendEvent.{SendEvent}
 use Rattle.wdt_sender_fsm.specs.declared.events.SendEvent.TheVariants as events
 use Rattle.wdt_sender_fsm.specs.declared.inputs.SendIn.{SendIn}
 use Rattle.wdt_sender_fsm.specs.declared.inputs.SendIn.TheVariants as inputs
@@ -23,7 +22,7 @@ use Rattle.wdt_sender_fsm.specs.Phases.{Phase, Open, Met, Listing, Told, Sending
 use Rattle.wdt_sender_fsm.specs.PlainSender.{PlainSender, lane_at, state_at, past_at, is_closed, least_queued, unfinished_blocks, noted, with_lane, goes}
 use Rattle.wdt_sender_fsm.specs.Rows.{Row, SettingsWritten, Linked, Greeted, DoneAtOnce, Listed, SizeWritten, BlockWritten, DoneWritten, Waits, Marked, Finished, Answered, row_of}
 use Rattle.wdt_sender_fsm.specs.Rules.{is_failure}
-use Rattle.wdt_sender_fsm.specs.SenderHistory.{past_of, past_of-more, past_after}
+use Rattle.wdt_sender_fsm.specs.SenderHistory.{past_of, past_of-more}
 use Rattle.wdt_sender_fsm.specs.Turn.{Step, faults, writes, writes_size, greeted_by, greeted_with, greeted_for, listed_again, with_plan, planned_by, listed_after, listed_in, next_conn, next_by, next, globals, marked_with, marked_for, finished, finished_at_once, turn_row, is_over, turned, ruled, send_turn}
 use Rattle.wdt_sender_fsm.proofs.Steps.{lane_set, if_has, served}
 
@@ -89,7 +88,7 @@ BehindFinish l step = StandsIn Bye l step.1
 finishes : (s : PlainSender) (l : Lane) (row : Row) → l.0 < length s.lanes → BehindFinish l (faults s l row (peers.EarlyDone (unfinished_blocks s))) → BehindFinish l (finished s l row)
 finishes s l row within fails =
     if_has (BehindFinish l) (unfinished_blocks s == 0) (writes (goes (noted s (events.Finish l ∷ [])) l states.AnswerDone) frames.Done) (faults s l row (peers.EarlyDone (unfinished_blocks s)))
-      (put (noted s (events.Finish l ∷ [])) l (in_state s l states.AnswerDone) Bye within (λ acked. refl)) fails
+    (put (noted s (events.Finish l ∷ [])) l (in_state s l states.AnswerDone) Bye within (λ acked. refl)) fails
 
 finishes_at_once : (s : PlainSender) (l : Lane) (b : Bool) → l.0 < length s.lanes → BehindFinish l (finished_at_once s l b)
 finishes_at_once s l true within = finishes s l DoneAtOnce within (inl refl)

@@ -1,11 +1,11 @@
 -- A lane behind a step, and the step that the rules leave to the table.
-use Rattle.std.proofs.Common.{◌≡◌, ℕ, zero, suc, ◌<◌, List, [], ◌∷◌, length, slice_get, slice_set, Bool, true, false, if◌then◌else◌, Option, Some, None, subst, sym, ap, ◌∙◌, arith, refl}
+use Rattle.std.proofs.Common.{◌≡◌, ℕ, zero, suc, ◌<◌, List, [], ◌∷◌, length, slice_get, slice_set, Bool, true, false, if◌then◌else◌, Some, ap, arith, refl}
 use Rattle.wdt_units.specs.declared.numbers.Lane.{Lane}
 use Rattle.wdt_sender_fsm.specs.declared.states.SendLane.{SendLane}
 use Rattle.wdt_sender_fsm.specs.PlainSender.{PlainSender, lane_or_ended, lane_at, is_closed, with_lane}
 use Rattle.wdt_sender_fsm.specs.Rows.{Row}
 use Rattle.wdt_sender_fsm.specs.Rules.{is_failure, by_rules, by_voice}
-use Rattle.wdt_sender_fsm.specs.Turn.{Step, rests, leaves, gives_up, turn_row, ruled, is_over}
+use Rattle.wdt_sender_fsm.specs.Turn.{turn_row, ruled, is_over}
 
 pub get_set : {X : Type 0} (xs : List X) (i : ℕ) (x : X) → i < length xs → slice_get (slice_set xs i x) i ≡ Some x
 get_set [] i x within = grind arith

@@ -1,4 +1,7 @@
 //! How an end fares.
+ghost use Rattle.std.specs.Prelude.{◌≡◌};
+ghost use Rattle.wdt_sender_fsm.specs.Rules.{is_failure, code_of, starved, judged};
+
 use crate::peers::PeerKind;
 use wdt_units::Name;
 
@@ -69,4 +72,57 @@ pub enum EndAnswer {
     Refused(RefusedKind),
     /// Memory ran out.
     NoMemory,
+}
+
+impl EndAnswer {
+    /// Whether the end has failed.
+    pub fn is_failure(&self) -> bool
+        ensures { result ≡ is_failure self.now }
+    {
+        !matches!(self, EndAnswer::Going | EndAnswer::Done | EndAnswer::Link)
+    }
+
+    /// The code by which a failed end tells the other of it: the exit status that the answer leads to,
+    /// and where the other end had failed itself the code that it told.
+    pub fn code(&self) -> u8
+        ensures { result ≡ code_of self.now }
+    {
+        match self {
+            EndAnswer::Going | EndAnswer::Done => 0,
+            EndAnswer::Source => 2,
+            EndAnswer::Disk => 3,
+            EndAnswer::Link => 4,
+            EndAnswer::Peer(_) => 5,
+            EndAnswer::Aborted(code) => *code,
+            EndAnswer::Refused(_) => 7,
+            EndAnswer::NoMemory => 10,
+        }
+    }
+
+    /// Memory ran out: that is the answer, unless there was one.
+    pub fn starve(&mut self)
+        ensures { self.new ≡ starved self.old }
+    {
+        if let EndAnswer::Going = self {
+            *self = EndAnswer::NoMemory;
+        }
+    }
+
+    /// The answer behind a step: a failure stays, and else it follows from the lanes. The end is done
+    /// where a last word was read and each lane is acknowledged or closed, and over where each has
+    /// ended or is closed.
+    pub fn judge(&mut self, is_done: bool, is_over: bool)
+        ensures { self.new ≡ judged self.old is_done is_over }
+    {
+        if self.is_failure() {
+            return;
+        }
+        *self = if is_done {
+            EndAnswer::Done
+        } else if is_over {
+            EndAnswer::Link
+        } else {
+            EndAnswer::Going
+        };
+    }
 }

@@ -1,6 +1,6 @@
 //! Laws of what the specifications of this crate define. The functions do nothing: their contracts
 //! are the laws.
-ghost use Rattle.std.specs.Prelude.{◌≡◌, ℕ, ◌+◌, ◌<◌, Bool, ◌↔◌, true, false, List, [], ◌∷◌, ◌++◌, length, map, replicate, slice_index_or, slice_set, None, Some};
+ghost use Rattle.std.specs.Prelude.{◌≡◌, ℕ, ◌+◌, ◌<◌, Bool, ◌↔◌, ◌⊎◌, true, false, List, [], ◌∷◌, ◌++◌, length, map, replicate, slice_index_or, slice_set, None, Some};
 ghost use Rattle.wdt_units.specs.Have.{HaveFile};
 ghost use Rattle.wdt_units.specs.LaneWords.{no_claims, claimed, cut_to, finished, sent};
 ghost use Rattle.wdt_units.specs.declared.blocks.Block.{Block};
@@ -8,7 +8,7 @@ ghost use Rattle.wdt_units.specs.declared.numbers.Lane.{Lane};
 ghost use Rattle.wdt_codec.specs.declared.frames.Frame.{Frame};
 ghost use Rattle.wdt_codec.specs.declared.frames.Frame.TheVariants as frames;
 ghost use Rattle.wdt_ranges.specs.Files.{is_in_order};
-ghost use Rattle.wdt_tree.specs.Rest.{is_rising};
+ghost use Rattle.wdt_tree.specs.Rest.{is_earlier, is_rising};
 ghost use Rattle.wdt_sender_fsm.specs.declared.events.SendEvent.{SendEvent};
 ghost use Rattle.wdt_sender_fsm.specs.declared.events.SendEvent.TheVariants as events;
 ghost use Rattle.wdt_sender_fsm.specs.declared.inputs.SendIn.{SendIn};
@@ -17,7 +17,7 @@ ghost use Rattle.wdt_sender_fsm.specs.declared.states.SendState.{SendState};
 ghost use Rattle.wdt_sender_fsm.specs.Chunks.{different_at, unordered_at};
 ghost use Rattle.wdt_sender_fsm.specs.Legal.{IsAllowed, IsLegal, IsSound};
 ghost use Rattle.wdt_sender_fsm.specs.Phases.{Phase, Message, Agree, FitsLane, StandsIn, down, up, phase_by, phase_heard, phase_holding, is_named};
-ghost use Rattle.wdt_sender_fsm.specs.Places.{changes_claims, claims_of, count_kept, count_of, is_among, place, queued, Confirmed};
+ghost use Rattle.wdt_sender_fsm.specs.Places.{changes_claims, claims_of, count_kept, count_of, is_among, least_of, place, queued, Confirmed};
 ghost use Rattle.wdt_sender_fsm.specs.PlainSender.{PlainSender, is_closed, lane_at};
 ghost use Rattle.wdt_sender_fsm.specs.Rows.{row_of};
 ghost use Rattle.wdt_sender_fsm.specs.Rules.{is_failure};
@@ -82,4 +82,10 @@ pub fn claims_follow_the_history()
 pub fn file_lists_are_compared()
     ensures ordered { (files : List HaveFile) → (unordered_at files ≡ None) ↔ (is_in_order files ≡ true) }
     ensures same { (first later : List HaveFile) → (different_at first later ≡ None) ↔ (first ≡ later) }
+{}
+
+/// The queue rises as the plan does, so the block that a lane takes is the least that waits.
+pub fn a_lane_takes_the_least_block()
+    ensures rising { (n : ℕ) (planned : List Block) (h : List SendEvent) → is_rising planned ≡ true → is_rising (queued n planned h) ≡ true }
+    ensures least { (n : ℕ) (planned : List Block) (h : List SendEvent) (b c : Block) → is_rising planned ≡ true → least_of (queued n planned h) ≡ Some b → is_among (queued n planned h) c ≡ true → (c ≡ b) ⊎ (is_earlier b c ≡ true) }
 {}

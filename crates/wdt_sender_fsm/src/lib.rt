@@ -24,8 +24,8 @@ pub use answers::{EndAnswer, RefusedKind};
 pub use events::SendEvent;
 pub use inputs::SendIn;
 pub use laws::{
-    a_sender_speaks_in_turn, claims_follow_the_history, ends_speak_in_turn,
-    file_lists_are_compared, histories_are_sound, worked_steps,
+    a_lane_takes_the_least_block, a_sender_speaks_in_turn, claims_follow_the_history,
+    ends_speak_in_turn, file_lists_are_compared, histories_are_sound, worked_steps,
 };
 pub use peers::PeerKind;
 pub use rows::{SendRow, allowed, row};

@@ -76,7 +76,10 @@ fn inputs_belong_to_states(rt: HostRuntime) -> Result<(), Fail> {
     let inputs = inputs(rt.alloc())?;
     for (state, row) in TABLE {
         for (input, letter) in inputs.iter().zip(row) {
-            assert!(rt; allowed(state, input) == (*letter == b'y'), "{state:?} {input:?}");
+            assert!(rt;
+                allowed(state, input) == (*letter == b'y'),
+                "{state:?} {input:?}"
+            );
         }
     }
     Ok(())
