@@ -1,4 +1,5 @@
 pub mod Claimed
+pub mod Closed
 pub mod Confirmed
 pub mod Counts
 pub mod Histories

@@ -35,11 +35,12 @@ pub fn worked_steps()
     ensures took_over { send_turn half_lost (lane 1) (Got (frames.ErrMarks (mark 0 0 ∷ []))) ≡ taken_over }
 {}
 
-/// What a legal history says: of each lane; that a block which has surely landed stays so, and that each
-/// of the plan has once a lane read the receiver's last word; and that each block of the plan stands
-/// once, in the queue or in one lane's list.
+/// What a legal history says: of each lane; that a closed lane stays closed; that a block which has
+/// surely landed stays so, and that each of the plan has once a lane read the receiver's last word; and
+/// that each block of the plan stands once, in the queue or in one lane's list.
 pub fn histories_are_sound()
     ensures sound { (n : ℕ) (planned : List Block) (h : List SendEvent) (l : ℕ) → IsLegal n planned h → IsSound (past_of h l) }
+    ensures closed { (h : List SendEvent) (e : SendEvent) (l m : ℕ) → (past_of h l).claims.closed ≡ Some m → (past_of (h ++ e ∷ []) l).claims.closed ≡ Some m }
     ensures confirmed { (n : ℕ) (planned : List Block) (h : List SendEvent) (e : SendEvent) (b : Block) → IsAllowed n planned h e → place (claims_of n h) b ≡ Confirmed → place (claims_of n (h ++ e ∷ [])) b ≡ Confirmed }
     ensures finished { (n : ℕ) (planned : List Block) (h : List SendEvent) (b : Block) → IsLegal n planned h → (end_of h).has_finish ≡ true → is_among planned b ≡ true → place (claims_of n h) b ≡ Confirmed }
     ensures placed { (n : ℕ) (planned : List Block) (h : List SendEvent) (b : Block) → is_rising planned ≡ true → IsLegal n planned h → count_of b (queued n planned h) + count_kept b (claims_of n h) ≡ count_of b planned }

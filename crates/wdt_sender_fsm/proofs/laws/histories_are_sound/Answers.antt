@@ -1,3 +1,4 @@
+use Rattle.wdt_sender_fsm.proofs.Closed.{stays_closed}
 use Rattle.wdt_sender_fsm.proofs.Landed.{all_confirmed}
 use Rattle.wdt_sender_fsm.proofs.Confirmed.{stays_confirmed}
 use Rattle.wdt_sender_fsm.proofs.Histories.{legal_sound}
@@ -15,3 +16,6 @@ returns-clause-placed c = placed_once
 
 pub returns-clause-finished : goal.returns-clause-finished
 returns-clause-finished c = all_confirmed
+
+pub returns-clause-closed : goal.returns-clause-closed
+returns-clause-closed c = stays_closed
