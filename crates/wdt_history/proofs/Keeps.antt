@@ -1,39 +1,39 @@
 -- Each step of a lane keeps what holds of the lanes.
-use Rattle.std.proofs.Common.{◌≡◌, ℕ, ◌+◌, ◌<◌, ◌≤◌, ◌^◌, true, false, List, [], ◌∷◌, ◌++◌, length, get_or, take, map, replicate, sum_by, Option, None, Result, Ok, Err, OnOk, OnErr, IfSome, refl, sym, ap, ◌∙◌, subst, inl, inr, ◌*◌, arith}
+use Rattle.std.proofs.Common.{◌≡◌, ℕ, ◌+◌, ◌<◌, ◌≤◌, ◌^◌, true, false, List, [], ◌∷◌, ◌++◌, length, get_or, take, map, replicate, Option, None, IfSome, refl, sym, ap, ◌∙◌, subst, inl, inr, ◌*◌, arith}
 use Rattle.std.proofs.lemmas.Bool.{cases_Bool, false≢true}
-use Rattle.std.proofs.lemmas.List.{get_or_read, set-get_or, length-set, length-take-le, length-replicate, length-map, length_push}
+use Rattle.std.proofs.lemmas.List.{get_or_read, length-set, length-take-le, length-replicate, length-map, length_push}
 use Rattle.std.proofs.lemmas.List.Elements.{All-set, All-map, All-replicate}
 use Rattle.std.proofs.lemmas.List.Folds.{sum_by-replicate}
-use Rattle.std.proofs.lemmas.List.Sums.{sum_by-set, sum_by-cons}
+use Rattle.std.proofs.lemmas.List.Sums.{sum_by-set, sum_by-cons, get_or-le-sum_by}
 use Rattle.std.proofs.lemmas.Option.{IfSome_then}
 use Rattle.wdt_units.specs.declared.blocks.Block.{Block}
-use Rattle.wdt_units.specs.declared.failures.NoMemory.{NoMemory}
-use Rattle.wdt_units.specs.Blocks.{count_of, is_same}
+use Rattle.wdt_units.specs.Blocks.{is_same}
 use Rattle.wdt_units.specs.LaneWords.{Claims, no_claims, claimed, sent, cut_to, closed_at, finished}
-use Rattle.wdt_units.proofs.BlockCounts.{count_of-append, count_of-nil, count_of-push, one_if_same, one_if-true, one_if-false}
+use Rattle.wdt_units.proofs.BlockCounts.{count_of-nil, count_of-push, one_if_same, one_if-true, one_if-false}
 use Rattle.wdt_units.proofs.BlockOrder.{one_block}
-use Rattle.wdt_history.specs.Claimed.{lane_at, with_lane, kept_of, IsLane, AreLanes}
+use Rattle.wdt_history.specs.Claimed.{lane_at, with_lane, count_in, count_kept, IsLane, AreLanes}
 
 -- ---- counts
 
-abbrev pub count_in : Block → Claims → ℕ
-count_in b s = count_of b s.kept
-
-abbrev pub count_kept : Block → List Claims → ℕ
-count_kept b lanes = count_of b (kept_of lanes)
+pub count_kept-nil : (b : Block) → count_kept b [] ≡ 0
+unfolding count_kept
+count_kept-nil b = refl
 
 pub count_kept-cons : (b : Block) (s : Claims) (lanes : List Claims) → count_kept b (s ∷ lanes) ≡ count_in b s + count_kept b lanes
-count_kept-cons b s lanes = count_of-append b s.kept (kept_of lanes)
-
-count_kept-sum : (b : Block) (lanes : List Claims) → count_kept b lanes ≡ sum_by (count_in b) lanes
-count_kept-sum b [] = count_of-nil b
-count_kept-sum b (s ∷ lanes) = omega (arith, count_kept-cons b s lanes, sum_by-cons (count_in b) s lanes, count_kept-sum b lanes)
+unfolding count_kept
+count_kept-cons b s lanes = sum_by-cons (count_in b) s lanes
 
 pub count_kept-with : (b : Block) (lanes : List Claims) (l : ℕ) (s : Claims) → l < length lanes → count_kept b (with_lane lanes l s) + count_in b (lane_at lanes l) ≡ count_kept b lanes + count_in b s
-count_kept-with b lanes l s lt = omega (arith, count_kept-sum b lanes, count_kept-sum b (with_lane lanes l s), sum_by-set (count_in b) lanes l s no_claims lt)
+unfolding count_kept
+count_kept-with b lanes l s lt = sum_by-set (count_in b) lanes l s no_claims lt
+
+pub count_in-le : (b : Block) (lanes : List Claims) (l : ℕ) → l < length lanes → count_in b (lane_at lanes l) ≤ count_kept b lanes
+unfolding count_kept
+count_in-le b lanes l lt = get_or-le-sum_by (count_in b) lanes l no_claims lt
 
 pub count_kept-none : (b : Block) (n : ℕ) → count_kept b (replicate n no_claims) ≡ 0
-count_kept-none b n = count_kept-sum b (replicate n no_claims) ∙ sum_by-replicate (count_in b) n no_claims ∙ ap (λ (m : ℕ). n * m) (count_of-nil b) ∙ (omega arith)
+unfolding count_kept
+count_kept-none b n = sum_by-replicate (count_in b) n no_claims ∙ ap (λ (m : ℕ). n * m) (count_of-nil b) ∙ (omega arith)
 
 pub count_kept-finished : (b : Block) (lanes : List Claims) → count_kept b (map finished lanes) ≡ count_kept b lanes
 count_kept-finished b [] = refl
@@ -134,16 +134,6 @@ read_at lanes l x lt e = get_or_read lanes l x lt e no_claims
 
 pub is_at : (lanes : List Claims) (l : ℕ) → AreLanes lanes → l < length lanes → IsLane (lane_at lanes l)
 is_at lanes l are lt = are.each l no_claims lt
-
--- writing back what was read changes nothing
-same_with : (lanes : List Claims) (l : ℕ) → with_lane lanes l (lane_at lanes l) ≡ lanes
-same_with lanes l = set-get_or lanes l no_claims
-
-pub claim_keeps : (lanes : List Claims) (l : ℕ) (b : Block) (y : Claims) (r : Result (Unit {0}) NoMemory) → AreLanes lanes → l < length lanes → (lane_at lanes l).closed ≡ None
-    → length (lane_at lanes l).kept < 2 ^ 31 → count_kept b lanes ≡ 0 → OnOk r (y ≡ claimed b (lane_at lanes l)) → OnErr r (y ≡ lane_at lanes l) → AreLanes (with_lane lanes l y)
-claim_keeps lanes l b y (Ok u) are lt unclosed few absent grew stays = subst (λ (s : Claims). AreLanes (with_lane lanes l s)) (sym grew) (lanes_claimed lanes l b are lt unclosed few absent)
-claim_keeps lanes l b y (Err e) are lt unclosed few absent grew stays =
-    subst (λ (s : Claims). AreLanes (with_lane lanes l s)) (sym stays) (subst AreLanes (sym (same_with lanes l)) are)
 
 pub sent_keeps : (lanes : List Claims) (l : ℕ) → AreLanes lanes → l < length lanes → AreLanes (with_lane lanes l (sent (lane_at lanes l)))
 sent_keeps lanes l are lt = lanes_with_fewer lanes l (sent (lane_at lanes l)) are lt (lane_sent (lane_at lanes l) (is_at lanes l are lt)) (λ b. omega arith)

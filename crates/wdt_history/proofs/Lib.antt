@@ -1,5 +1,6 @@
 pub mod Back
 pub mod Found
 pub mod Keeps
+pub mod Slots
 pub mod Standing
 pub mod Turns

@@ -7,13 +7,13 @@ use Rattle.std.proofs.lemmas.Option.{slice_get_within}
 use Rattle.wdt_units.specs.declared.blocks.Block.{Block}
 use Rattle.wdt_units.specs.Blocks.{is_same}
 use Rattle.wdt_units.specs.LaneWords.{Claims}
-use Rattle.wdt_units.proofs.BlockCounts.{count_of-nil, count_of-parts}
+use Rattle.wdt_units.proofs.BlockCounts.{count_of-parts}
 use Rattle.wdt_history.specs.declared.place.Place.{Place}
 use Rattle.wdt_history.specs.declared.place.Place.TheVariants.{Queued, Held, Unconfirmed, Confirmed}
-use Rattle.wdt_history.specs.Claimed.{lane_at, AreLanes, IsLane}
+use Rattle.wdt_history.specs.Claimed.{lane_at, count_in, count_kept, AreLanes, IsLane}
 use Rattle.wdt_history.specs.Places.{confirms, holds, is_among, is_queued, keeps, place_at, place_in, place_of}
 use Rattle.wdt_history.proofs.Found.{absent, among, among_first, among_last, counted_at, found, not_among, not_found, stands_at}
-use Rattle.wdt_history.proofs.Keeps.{count_in, count_kept, count_kept-cons}
+use Rattle.wdt_history.proofs.Keeps.{count_kept-cons, count_kept-nil}
 
 -- the place by what the tests answer
 abbrev pub by_tests : Bool → Bool → Bool → Place
@@ -39,7 +39,7 @@ none_in b p gone (s ∷ lanes) none =
     ∙ none_in b p gone lanes (omega (arith, none, count_kept-cons b s lanes))
 
 -- it leaves the block to the others
-pub pass_on : (b : Block) (s : Claims) (lanes : List Claims) → count_in b s ≡ 0 → place_of (s ∷ lanes) b ≡ place_of lanes b
+pub pass_on : (b : Block) (s : Claims) (lanes : List Claims) → count_in b s ≡ 0 → place_of b (s ∷ lanes) ≡ place_of b lanes
 pass_on b s lanes none =
     let gone = lacks b s none in
     ap (λ (x : Bool). by_tests (not (x || list_any (keeps b) lanes)) (confirms b s || list_any (confirms b) lanes) (holds b s || list_any (holds b) lanes)) gone.0
@@ -54,7 +54,7 @@ one_lane true false = refl
 one_lane false true = refl
 one_lane false false = refl
 
-pub here : (b : Block) (s : Claims) (lanes : List Claims) (i : ℕ) → s.sure ≤ length s.kept → count_in b s ≤ 1 → count_kept b lanes ≡ 0 → position (is_same b) s.kept ≡ Some i → place_of (s ∷ lanes) b ≡ place_at s i
+pub here : (b : Block) (s : Claims) (lanes : List Claims) (i : ℕ) → s.sure ≤ length s.kept → count_in b s ≤ 1 → count_kept b lanes ≡ 0 → position (is_same b) s.kept ≡ Some i → place_of b (s ∷ lanes) ≡ place_at s i
 here b s lanes i sure once others e =
     ap (λ (x : Bool). by_tests (not (x || list_any (keeps b) lanes)) (confirms b s || list_any (confirms b) lanes) (holds b s || list_any (holds b) lanes)) (among b s.kept i e)
     ∙ ap (λ (x : Bool). by_tests (not (true || x)) (confirms b s || list_any (confirms b) lanes) (holds b s || list_any (holds b) lanes)) (none_in b (keeps b) (λ t gone. (lacks b t gone).0) lanes others)
@@ -75,8 +75,8 @@ abbrev pub AreSure : List Claims → Type 0
 AreSure [] = Unit {0}
 AreSure (s ∷ lanes) = (s.sure ≤ length s.kept) × AreSure lanes
 
-step : (b : Block) (s : Claims) (lanes : List Claims) (o : Option ℕ) → position (is_same b) s.kept ≡ o → s.sure ≤ length s.kept → count_kept b (s ∷ lanes) ≤ 1 → first_place b lanes ≡ place_of lanes b
-    → first_place b (s ∷ lanes) ≡ place_of (s ∷ lanes) b
+step : (b : Block) (s : Claims) (lanes : List Claims) (o : Option ℕ) → position (is_same b) s.kept ≡ o → s.sure ≤ length s.kept → count_kept b (s ∷ lanes) ≤ 1 → first_place b lanes ≡ place_of b lanes
+    → first_place b (s ∷ lanes) ≡ place_of b (s ∷ lanes)
 step b s lanes None e sure once rest =
     ap (λ (o : Option ℕ). unwrap_or (option_map (place_at s) o) (first_place b lanes)) e ∙ rest ∙ sym (pass_on b s lanes (not_found b s.kept e))
 step b s lanes (Some i) e sure once rest =
@@ -84,7 +84,7 @@ step b s lanes (Some i) e sure once rest =
     ap (λ (o : Option ℕ). unwrap_or (option_map (place_at s) o) (first_place b lanes)) e
     ∙ sym (here b s lanes i sure (omega (arith, once, count_kept-cons b s lanes)) (omega (arith, once, has, count_kept-cons b s lanes)) e)
 
-pub first_is : (b : Block) (lanes : List Claims) → AreSure lanes → count_kept b lanes ≤ 1 → first_place b lanes ≡ place_of lanes b
+pub first_is : (b : Block) (lanes : List Claims) → AreSure lanes → count_kept b lanes ≤ 1 → first_place b lanes ≡ place_of b lanes
 first_is b [] sure once = refl
 first_is b (s ∷ lanes) sure once =
     step b s lanes (position (is_same b) s.kept) refl sure.0 once (first_is b lanes sure.1 (omega (arith, once, count_kept-cons b s lanes)))
@@ -93,7 +93,7 @@ sure_from : (lanes : List Claims) → ((k : ℕ) (d : Claims) → k < length lan
 sure_from [] each = tt
 sure_from (s ∷ lanes) each = ((each 0 s (omega arith)).sure, sure_from lanes (λ k d lt. each (suc k) d (omega (arith, lt))))
 
-pub place_from : (b : Block) (lanes : List Claims) → AreLanes lanes → first_place b lanes ≡ place_of lanes b
+pub place_from : (b : Block) (lanes : List Claims) → AreLanes lanes → first_place b lanes ≡ place_of b lanes
 place_from b lanes are = first_is b lanes (sure_from lanes are.each) (are.once b)
 
 -- ---- the laws
@@ -103,7 +103,7 @@ kept_at b [] l i e = absurd (omega (arith, slice_get_within [] i b e))
 kept_at b (s ∷ lanes) zero i e = omega (arith, count_kept-cons b s lanes, counted_at b s.kept i e)
 kept_at b (s ∷ lanes) (suc l) i e = omega (arith, count_kept-cons b s lanes, kept_at b lanes l i e)
 
-listed_in : (lanes : List Claims) (l i : ℕ) (b : Block) → AreSure lanes → count_kept b lanes ≤ 1 → slice_get (lane_at lanes l).kept i ≡ Some b → place_of lanes b ≡ place_at (lane_at lanes l) i
+listed_in : (lanes : List Claims) (l i : ℕ) (b : Block) → AreSure lanes → count_kept b lanes ≤ 1 → slice_get (lane_at lanes l).kept i ≡ Some b → place_of b lanes ≡ place_at (lane_at lanes l) i
 listed_in [] l i b sure once e = absurd (omega (arith, slice_get_within [] i b e))
 listed_in (s ∷ lanes) zero i b sure once e =
     let single : count_in b s ≤ 1 = omega (arith, once, count_kept-cons b s lanes) in
@@ -112,10 +112,10 @@ listed_in (s ∷ lanes) (suc l) i b sure once e =
     pass_on b s lanes (omega (arith, count_kept-cons b s lanes, kept_at b lanes l i e, once))
     ∙ listed_in lanes l i b sure.1 (omega (arith, count_kept-cons b s lanes, once)) e
 
-pub listed : (lanes : List Claims) (l i : ℕ) (b : Block) → AreLanes lanes → slice_get (lane_at lanes l).kept i ≡ Some b → place_of lanes b ≡ place_at (lane_at lanes l) i
+pub listed : (lanes : List Claims) (l i : ℕ) (b : Block) → AreLanes lanes → slice_get (lane_at lanes l).kept i ≡ Some b → place_of b lanes ≡ place_at (lane_at lanes l) i
 listed lanes l i b are e = listed_in lanes l i b (sure_from lanes are.each) (are.once b) e
 
-pub queued_from : (lanes : List Claims) (b : Block) → count_kept b lanes ≡ 0 → place_of lanes b ≡ Queued
+pub queued_from : (lanes : List Claims) (b : Block) → count_kept b lanes ≡ 0 → place_of b lanes ≡ Queued
 queued_from [] b none = refl
 queued_from (s ∷ lanes) b none = pass_on b s lanes (omega (arith, count_kept-cons b s lanes, none)) ∙ queued_from lanes b (omega (arith, count_kept-cons b s lanes, none))
 
@@ -126,7 +126,7 @@ only_queued false false true e = cc
 only_queued false false false e = cc
 
 kept_none : (b : Block) (lanes : List Claims) → not (list_any (keeps b) lanes) ≡ true → count_kept b lanes ≡ 0
-kept_none b [] gone = count_of-nil b
+kept_none b [] gone = count_kept-nil b
 kept_none b (s ∷ lanes) gone =
     let both = or_parts (keeps b s) (list_any (keeps b) lanes) (not-true (keeps b s || list_any (keeps b) lanes) gone) in
     omega (arith, count_kept-cons b s lanes, unseen b s both.0, kept_none b lanes (not_from_false (list_any (keeps b) lanes) both.1))
@@ -134,8 +134,8 @@ kept_none b (s ∷ lanes) gone =
     unseen : (b : Block) (s : Claims) → keeps b s ≡ false → count_in b s ≡ 0
     unseen b s gone = absent b s.kept gone
 
-pub queued_only : (lanes : List Claims) (b : Block) → place_of lanes b ≡ Queued → count_kept b lanes ≡ 0
+pub queued_only : (lanes : List Claims) (b : Block) → place_of b lanes ≡ Queued → count_kept b lanes ≡ 0
 queued_only lanes b q = kept_none b lanes (only_queued (is_queued lanes b) (list_any (confirms b) lanes) (list_any (holds b) lanes) q)
 
-pub queued_where : (lanes : List Claims) (b : Block) → (place_of lanes b ≡ Queued) ↔ (count_kept b lanes ≡ 0)
+pub queued_where : (lanes : List Claims) (b : Block) → (place_of b lanes ≡ Queued) ↔ (count_kept b lanes ≡ 0)
 queued_where lanes b = (queued_only lanes b, queued_from lanes b)

@@ -1,7 +1,7 @@
 -- What the lanes of a sender have claimed together. A lane's number is its place in the list.
-use Rattle.std.specs.Prelude.{◌≡◌, ℕ, ◌≤◌, ◌<◌, ◌^◌, Bool, false, IsTrue, List, [], ◌∷◌, ◌++◌, length, All, IfSome, count_by, slice_index_or, slice_set}
+use Rattle.std.specs.Prelude.{◌≡◌, ℕ, ◌≤◌, ◌<◌, ◌^◌, Bool, false, IsTrue, List, length, All, IfSome, slice_index_or, slice_set, sum_by}
 use Rattle.wdt_units.specs.declared.blocks.Block.{Block}
-use Rattle.wdt_units.specs.Blocks.{AreDistinct}
+use Rattle.wdt_units.specs.Blocks.{count_of}
 use Rattle.wdt_units.specs.LaneWords.{Claims, no_claims}
 
 -- a lane's claims
@@ -12,18 +12,16 @@ lane_at lanes lane = slice_index_or lanes lane no_claims
 abbrev pub with_lane : List Claims → ℕ → Claims → List Claims
 with_lane lanes lane claims = slice_set lanes lane claims
 
--- the blocks of all lanes' lists
-abbrev pub kept_of : List Claims → List Block
-kept_of [] = []
-kept_of (claims ∷ lanes) = claims.kept ++ kept_of lanes
+abbrev pub count_in : Block → Claims → ℕ
+count_in block claims = count_of block claims.kept
 
--- a block of the lane is still being written
-abbrev pub is_holding : Claims → Bool
-is_holding claims = claims.held
+-- the last block of a lane is still being written
+abbrev pub is_held : Claims → Bool
+is_held claims = claims.held
 
--- how many lanes have one
-abbrev pub holding : List Claims → ℕ
-holding lanes = count_by is_holding lanes
+-- how often a block stands in the lists of all lanes
+unfoldable pub count_kept : Block → List Claims → ℕ
+count_kept block lanes = sum_by (count_in block) lanes
 
 -- a lane's sure blocks are of its list, a block that is being written isn't sure, and the list of a
 -- closed lane is what its closing kept
@@ -36,5 +34,5 @@ pub record IsLane (claims : Claims) : Type 0 where
 -- no block stands twice in the lists of the lanes
 pub record AreLanes (lanes : List Claims) : Type 0 where
   pub each : All IsLane lanes
-  pub once : AreDistinct (kept_of lanes)
+  pub once : (block : Block) → count_kept block lanes ≤ 1
   pub few : length lanes < 2 ^ 8

@@ -1,6 +1,11 @@
 -- A lane's claims as the code keeps them.
-use Rattle.wdt_units.specs.LaneWords.{Claims}
+use Rattle.std.specs.Prelude.{◌-◌, vec_len, vec_capacity}
 use Rattle.wdt_history.specs.declared.lane.LaneClaims.TheInside.{Inside}
+use Rattle.wdt_history.specs.Slots.{Slot}
 
-abbrev pub seen : Inside → Claims
-seen lane = record { kept = lane.kept.items; sure = lane.sure; held = lane.held; closed = lane.closed }
+abbrev pub seen : Inside → Slot
+seen lane =
+    record {
+      claims = record { kept = lane.kept.items; sure = lane.sure; held = lane.held; closed = lane.closed };
+      room = vec_capacity lane.kept - vec_len lane.kept;
+    }

@@ -27,8 +27,8 @@ abbrev pub is_queued : List Claims → Block → Bool
 is_queued lanes block = not (list_any (keeps block) lanes)
 
 -- where a block stands
-abbrev pub place_of : List Claims → Block → Place
-place_of lanes block =
+abbrev pub place_of : Block → List Claims → Place
+place_of block lanes =
     if is_queued lanes block then Queued
     else if list_any (confirms block) lanes then Confirmed
     else if list_any (holds block) lanes then Held

@@ -28,9 +28,9 @@ pub struct LaneClaims {
 }
 
 impl Model for LaneClaims {
-    ghost use Rattle.wdt_units.specs.LaneWords.{Claims};
+    ghost use Rattle.wdt_history.specs.Slots.{Slot};
 
-    ghost Value = { Claims };
+    ghost Value = { Slot };
 
     ghost use Rattle.wdt_history.specs.Inside.{seen};
 
@@ -40,7 +40,7 @@ impl Model for LaneClaims {
 impl LaneClaims {
     /// A lane that claimed nothing.
     pub fn new(alloc: Global) -> LaneClaims
-        ensures { result ≡ no_claims }
+        ensures { result.claims ≡ no_claims }
     {
         LaneClaims {
             kept: Vec::new(alloc),
@@ -52,55 +52,69 @@ impl LaneClaims {
 
     /// The lane's blocks in the order in which they were claimed.
     pub fn kept(&self) -> &[Block]
-        ensures { result.now ≡ self.now.kept }
+        ensures { result.now ≡ self.now.claims.kept }
     {
         &self.kept
     }
 
     /// How many of the first blocks have surely landed.
     pub fn sure(&self) -> u32
-        ensures { result ≡ self.now.sure }
+        ensures { result ≡ self.now.claims.sure }
     {
         self.sure
     }
 
     /// Whether the last block is still being written.
     pub fn holds(&self) -> bool
-        ensures { result ≡ self.now.held }
+        ensures { result ≡ self.now.claims.held }
     {
         self.held
     }
 
     /// The count that closed the lane.
     pub fn closed(&self) -> Option<u32>
-        ensures { result ≡ self.now.closed }
+        ensures { result ≡ self.now.claims.closed }
     {
         self.closed
     }
 
-    /// Claims a block, which is written from now on.
-    pub fn claim(&mut self, block: Block) -> Result<(), NoMemory>
-        ensures claimed { OnOk result (self.new ≡ claimed block self.old) }
+    /// Makes room for one more block.
+    pub fn prepare(&mut self) -> Result<(), NoMemory>
+        ensures room { OnOk result (0 < self.new.room) }
+        ensures claims { self.new.claims ≡ self.old.claims }
         ensures unchanged { OnErr result (self.new ≡ self.old) }
     {
-        if self.kept.push(block).is_err() {
+        if self.kept.reserve(1).is_err() {
             return Err(NoMemory);
         }
+        Ok(())
+    }
+
+    /// Claims a block, which is written from now on. It fails only where there is no room for it.
+    pub fn claim(&mut self, block: Block) -> Result<(), NoMemory>
+        ensures claimed { OnOk result (self.new.claims ≡ claimed block self.old.claims) }
+        ensures unchanged { OnErr result (self.new ≡ self.old) }
+        ensures full { OnErr result (self.old.room ≡ 0) }
+    {
+        if self.kept.reserve(1).is_err() {
+            return Err(NoMemory);
+        }
+        self.kept.push_reserved(block);
         self.held = true;
         Ok(())
     }
 
     /// The last block was written whole.
     pub fn sent(&mut self)
-        ensures { self.new ≡ sent self.old }
+        ensures { self.new ≡ record self.old { claims = sent self.old.claims } }
     {
         self.held = false;
     }
 
     /// All blocks have landed.
     pub fn finish(&mut self)
-        requires { IsLane self.old }
-        ensures { self.new ≡ finished self.old }
+        requires { IsLane self.old.claims }
+        ensures { self.new ≡ record self.old { claims = finished self.old.claims } }
     {
         self.sure = self.kept.len() as u32;
         self.held = false;
@@ -108,8 +122,8 @@ impl LaneClaims {
 
     /// Whether the lane's first n blocks may be those that have landed.
     pub fn check(&self, n: u32) -> Result<(), CheckFail>
-        requires { IsLane self.now }
-        ensures { result_err result ≡ fault_of self.now n }
+        requires { IsLane self.now.claims }
+        ensures { result_err result ≡ fault_of self.now.claims n }
     {
         if let Some(before) = self.closed {
             return if n == before {
@@ -127,13 +141,14 @@ impl LaneClaims {
 
     /// Keeps the first n blocks, which have landed, puts the others back, and answers how many.
     pub fn cut(&mut self, n: u32, queue: &mut Queue) -> u32
-        requires lawful { IsLane self.old }
-        requires within { n ≤ length self.old.kept }
-        requires room { length (drop n self.old.kept) ≤ queue.old.room }
-        requires absent { AreDistinct (queue.old.waiting ++ drop n self.old.kept) }
-        ensures cut { self.new ≡ cut_to n 0 self.old }
-        ensures count { result ≡ length (drop n self.old.kept) }
-        ensures blocks { HaveSameBlocks queue.new.waiting (queue.old.waiting ++ drop n self.old.kept) }
+        requires lawful { IsLane self.old.claims }
+        requires within { n ≤ length self.old.claims.kept }
+        requires room { length (drop n self.old.claims.kept) ≤ queue.old.room }
+        requires absent { AreDistinct (queue.old.waiting ++ drop n self.old.claims.kept) }
+        ensures cut { self.new.claims ≡ cut_to n 0 self.old.claims }
+        ensures kept_room { self.old.room ≤ self.new.room }
+        ensures count { result ≡ length (drop n self.old.claims.kept) }
+        ensures blocks { HaveSameBlocks queue.new.waiting (queue.old.waiting ++ drop n self.old.claims.kept) }
         ensures rising { IsTrue (are_rising queue.old.waiting) → IsTrue (are_rising queue.new.waiting) }
         ensures room { queue.new.room + result ≡ queue.old.room }
     {
@@ -148,13 +163,14 @@ impl LaneClaims {
 
     /// Keeps the first n blocks as `cut` does, and closes the lane.
     pub fn close(&mut self, n: u32, queue: &mut Queue) -> u32
-        requires lawful { IsLane self.old }
-        requires within { n ≤ length self.old.kept }
-        requires room { length (drop n self.old.kept) ≤ queue.old.room }
-        requires absent { AreDistinct (queue.old.waiting ++ drop n self.old.kept) }
-        ensures closed { self.new ≡ closed_at n 0 self.old }
-        ensures count { result ≡ length (drop n self.old.kept) }
-        ensures blocks { HaveSameBlocks queue.new.waiting (queue.old.waiting ++ drop n self.old.kept) }
+        requires lawful { IsLane self.old.claims }
+        requires within { n ≤ length self.old.claims.kept }
+        requires room { length (drop n self.old.claims.kept) ≤ queue.old.room }
+        requires absent { AreDistinct (queue.old.waiting ++ drop n self.old.claims.kept) }
+        ensures closed { self.new.claims ≡ closed_at n 0 self.old.claims }
+        ensures kept_room { self.old.room ≤ self.new.room }
+        ensures count { result ≡ length (drop n self.old.claims.kept) }
+        ensures blocks { HaveSameBlocks queue.new.waiting (queue.old.waiting ++ drop n self.old.claims.kept) }
         ensures rising { IsTrue (are_rising queue.old.waiting) → IsTrue (are_rising queue.new.waiting) }
         ensures room { queue.new.room + result ≡ queue.old.room }
     {
@@ -165,7 +181,7 @@ impl LaneClaims {
 
     /// The place of a block, if it stands in the lane's list.
     pub fn place(&self, block: Block) -> Option<Place>
-        ensures { result ≡ place_in block self.now }
+        ensures { result ≡ place_in block self.now.claims }
     {
         match index_of(&self.kept, block) {
             Some(index) => Some(self.place_at(index)),
@@ -175,8 +191,8 @@ impl LaneClaims {
 
     // The place of the block at an index of the list.
     fn place_at(&self, index: usize) -> Place
-        requires { index < length self.now.kept }
-        ensures { result ≡ place_at self.now index }
+        requires { index < length self.now.claims.kept }
+        ensures { result ≡ place_at self.now.claims index }
     {
         if index < self.sure as usize {
             return Place::Confirmed;

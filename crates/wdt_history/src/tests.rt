@@ -1,5 +1,5 @@
-//! What no clause says: a history is made and claims where there is memory, and one worked life of a
-//! block.
+//! What no clause says: a history is made, makes room and claims where there is memory, and one
+//! worked life of a block.
 use crate::{CheckFail, History, Place};
 use std::test::Fail;
 use wdt_queue::Queue;
@@ -16,6 +16,7 @@ fn a_block_comes_home(rt: HostRuntime) -> Result<(), Fail> {
     let mut queue = Queue::of(Vec::new(alloc))?;
     let mut history = History::of(alloc, 2)?;
     assert_eq!(rt; history.place(block), Place::Queued);
+    history.prepare(Lane(1))?;
     history.claim(Lane(1), block)?;
     assert_eq!(rt; history.place(block), Place::Held);
     assert_eq!(rt; history.holding(), 1);

@@ -47,7 +47,8 @@ impl Queue {
     /// Takes the least block, by file, then by offset, then by length. None exactly where no block
     /// waits.
     pub fn take(&mut self) -> Option<Block>
-        ensures { TakesLeast self.old result self.new }
+        ensures taken { TakesLeast self.old result self.new }
+        ensures limit { length self.new.waiting + self.new.room < 2 ^ 31 }
     {
         self.blocks.pop()
     }

@@ -12,7 +12,7 @@ put_back-requires-clause-absent g c =
     omega (
       arith,
       rising_distinct c.in_ok-queue.queue.waiting c.len.ensures.rising c.in-Some.least,
-      ap (count_of c.in-Some.least) c.in-Some.ensures.0,
+      ap (count_of c.in-Some.least) c.in-Some.ensures.taken.0,
       count_of-cons c.in-Some.least c.in-Some.least c.take.new.self.waiting,
       one_if-true c.in-Some.least c.in-Some.least (same_itself c.in-Some.least),
     )

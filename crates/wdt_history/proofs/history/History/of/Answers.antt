@@ -4,4 +4,7 @@ use Rattle.wdt_history.proofs.Keeps.{lanes_of_none}
 use Rattle.wdt_history.proofs.history.History.of.Goals as goal
 
 pub invariant_of-result : goal.invariant_of-result
-invariant_of-result c = subst AreLanes (sym c.loop.invariant) (lanes_of_none c.loop.counter (omega (arith, c.ranges.lanes.fits)))
+invariant_of-result c = record {
+  lanes = subst AreLanes (sym c.loop.invariant) (lanes_of_none c.loop.counter (omega (arith, c.ranges.lanes.fits)));
+  room = tt;
+}
