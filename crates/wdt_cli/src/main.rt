@@ -5,7 +5,6 @@
 //! and `--version`.
 #![tactic(auto)]
 
-mod folder;
 mod help;
 mod reading;
 mod receiver;
@@ -17,16 +16,14 @@ mod status;
 #[cfg(test)]
 mod tests;
 mod tool;
-mod trouble;
 mod words;
 
-use folder::FolderSource;
 use status::Status;
 use std::alloc::{AllocError, Global};
 use std::io;
 use std::process::ExitCode;
 use std::rt::{Env, Files};
-use trouble::OneLine;
+use wdt_folder::{FolderSource, OneLine};
 use wdt_sender_fsm::RefusedKind;
 use wdt_units::ToWrite;
 use words::folders_of;
