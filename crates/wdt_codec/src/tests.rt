@@ -312,7 +312,8 @@ const FILE: &[u8] =
 #[test]
 fn the_longest_list_of_files_comes_in_small_pieces(rt: HostRuntime) {
     let mut text = Vec::new(rt.alloc());
-    text.extend_from_slice(b"\x43\x00\x04\x00\x00").expect(&rt, "memory");
+    text.extend_from_slice(b"\x43\x00\x04\x00\x00")
+        .expect(&rt, "memory");
     for _ in 0..262_144 {
         text.extend_from_slice(FILE).expect(&rt, "memory");
     }
