@@ -14,6 +14,7 @@ mod acts;
 mod answers;
 mod events;
 mod inputs;
+mod keeping;
 mod laws;
 mod peers;
 mod rows;
@@ -23,6 +24,10 @@ pub use acts::SendAct;
 pub use answers::{EndAnswer, RefusedKind};
 pub use events::SendEvent;
 pub use inputs::SendIn;
+pub use keeping::{
+    answers_have_their_causes, senders_stay_senders, steps_answer_rightly, steps_touch_their_lane,
+    the_plan_is_the_rest,
+};
 pub use laws::{
     a_lane_takes_the_least_block, a_sender_speaks_in_turn, claims_follow_the_history,
     ends_speak_in_turn, file_lists_are_compared, histories_are_sound, worked_steps,
