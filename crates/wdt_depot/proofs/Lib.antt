@@ -1,0 +1,17 @@
+pub mod Entering
+pub mod Exits
+pub mod Images
+pub mod Paths
+pub mod Moments
+pub mod Overlay
+pub mod Owed
+pub mod Picks
+pub mod Places
+pub mod Programs
+pub mod Reopened
+pub mod Slips
+pub mod Splices
+pub mod SpotLists
+pub mod Stores
+pub mod Trace
+pub mod Writes

@@ -1,0 +1,30 @@
+-- Programs of calls, one behind the other.
+use Rattle.std.proofs.Common.{◌≡◌, ℕ, ◌≤◌, ◌+◌, ◌^◌, Option, Some, None, Bool, true, false, List, length, ap, ◌∙◌, refl, arith}
+use Rattle.std.specs.Prelude.{if◌then◌else◌}
+use Rattle.std.proofs.lemmas.Bool.Decides.{nat_tests}
+use Rattle.std.proofs.lemmas.Option.{same_Some}
+use Rattle.wdt_depot.specs.Disk.{Disk, wrote}
+use Rattle.wdt_depot.specs.Programs.{Calls, Drive, both, onward, torn_write}
+use Rattle.wdt_depot.specs.State.{is_past_end}
+
+-- the first answered Ok: the program goes on
+pub calls_both : (f g : Drive → Bool × Drive) (ok : Bool) (a b c : Option Drive) → Calls f true a b → Calls g ok b c → Calls (both f g) ok a c
+calls_both f g ok None None None p q = refl
+calls_both f g ok None None (Some z) p q = cc
+calls_both f g ok None (Some y) c p q = cc
+calls_both f g ok (Some x) None c p q = cc
+calls_both f g ok (Some x) (Some y) None p q = cc
+calls_both f g ok (Some x) (Some y) (Some z) p q = ap (λ (r : Bool × Drive). Some (onward g r.0 r.1)) (same_Some _ _ p) ∙ q
+
+-- the first failed: the program ends there
+pub calls_first : (f g : Drive → Bool × Drive) (a b : Option Drive) → Calls f false a b → Calls (both f g) false a b
+calls_first f g None None p = refl
+calls_first f g None (Some y) p = cc
+calls_first f g (Some x) None p = cc
+calls_first f g (Some x) (Some y) p = ap (λ (r : Bool × Drive). Some (onward g r.0 r.1)) (same_Some _ _ p)
+
+-- a write within the limit counts whole where it is struck
+pub torn_within : (path : List ℕ) (offset : ℕ) (bytes : List ℕ) (pick : ℕ) (d : Disk) → offset + length bytes ≤ 2 ^ 41 → torn_write path offset bytes pick d ≡ wrote path offset bytes d
+torn_within path offset bytes pick d h =
+    let no : is_past_end offset (length bytes) ≡ false = grind (arith, nat_tests) in
+    ap (λ (b : Bool). if b then d else wrote path offset bytes d) no

@@ -1,0 +1,6 @@
+-- A write that isn't synced, as data.
+use Rattle.wdt_depot.specs.declared.place.Overwrite.{Overwrite}
+use Rattle.wdt_depot.specs.Slots.{Change}
+
+abbrev pub change_view : Overwrite → Change
+change_view o = record { offset = o.offset; count = o.count; before = o.before.items; size = o.size }

@@ -1,0 +1,16 @@
+pub mod Changes
+pub mod Disk
+pub mod Luck
+pub mod Memory
+pub mod MemState
+pub mod Moments
+pub mod Outcome
+pub mod PickLaws
+pub mod Picks
+pub mod Plains
+pub mod Programs
+pub mod Reopening
+pub mod Slots
+pub mod Spots
+pub mod State
+pub mod View

@@ -1,0 +1,28 @@
+-- What a changing call leaves.
+use Rattle.std.specs.Prelude.{◌≡◌, ℕ, Bool, None, OnOk, Result, IsErrOf}
+use Rattle.wdt_depot.specs.Disk.{Disk}
+use Rattle.wdt_depot.specs.Moments.{OneStep, MayDo}
+use Rattle.wdt_depot.specs.Programs.{Ran, changing}
+use Rattle.wdt_depot.specs.State.{Counts, CountsSlip, IsCounted, IsKept, OnlyLooks, State}
+use Rattle.wdt_depot.specs.Programs.{looking}
+use Rattle.wdt_depot.specs.declared.failure.DepotFail.{DepotFail}
+use Rattle.wdt_depot.specs.declared.failure.DepotFail.TheVariants.{Failed}
+
+-- a changing call, by what it does where it is done and where it is struck, and by whether it is a slip
+pub record Outcome (slip : Bool) (done : Disk → Disk) (torn : ℕ → Disk → Disk) (result : Result (Unit {0}) DepotFail) (old new : State) : Type 0 where
+  pub step : OneStep (MayDo done result) old.told new.told
+  pub exact : Ran (changing done torn) result old new
+  pub memory : IsKept result old new
+  pub stop : IsCounted result old new
+  pub up : OnOk result (new.stop.struck ≡ None)
+  pub slips : CountsSlip slip result (IsErrOf result Failed) old new
+  pub counts : Counts (IsErrOf result Failed) old new
+
+-- a call that looks, by whether it is a slip
+pub record Look {T : Type 0} (slip : Bool) (result : Result T DepotFail) (old new : State) : Type 0 where
+  pub looks : OnlyLooks old new
+  pub exact : Ran looking result old new
+  pub memory : IsKept result old new
+  pub up : OnOk result (new.stop.struck ≡ None)
+  pub slips : CountsSlip slip result (IsErrOf result Failed) old new
+  pub counts : Counts (IsErrOf result Failed) old new

@@ -1,0 +1,152 @@
+// The changing calls of a depot in memory, apart from its spots. The stop comes first, then what can't
+// be done, then the calls that fail by their numbers.
+ghost use Rattle.std.specs.Prelude.{◌≡◌, ℕ, ◌+◌, ◌<◌, ◌^◌, nat_lt, ◌&&◌, List, length, false, IsErr, IsErrOf, OnErr, Some};
+ghost use Rattle.wdt_depot.specs.Disk.{made, placed, synced_at, wrote};
+ghost use Rattle.wdt_depot.specs.Luck.{state_of};
+ghost use Rattle.wdt_depot.specs.Memory.{KeepsPaths, KeepsPathsBut, shelf_of, told_in};
+ghost use Rattle.wdt_depot.specs.Outcome.{Outcome};
+ghost use Rattle.wdt_depot.specs.Programs.{torn_write, when_odd};
+ghost use Rattle.wdt_depot.specs.State.{is_behind, is_far, is_past_end, lacks};
+ghost use Rattle.wdt_depot.specs.Slots.{file_of};
+ghost use Rattle.wdt_depot.specs.View.{slot_view};
+
+use crate::depot::MAX_END;
+use crate::failure::DepotFail;
+use crate::index::place_of;
+use crate::luck::{Luck, Turn};
+use crate::place::Place;
+use crate::store::Store;
+use wdt_units::{MAX_FILE_SIZE, Name};
+
+// A file is made.
+pub fn make_parts(store: &mut Store, luck: &mut Luck, path: &Name) -> Result<(), DepotFail>
+    ensures outcome { (es : List (ℕ × List ℕ)) → Outcome false (made path.now) (when_odd (made path.now)) result (state_of (told_in store.old) luck.old es) (state_of (told_in store.new) luck.new es) }
+    ensures paths { KeepsPaths (shelf_of store.old).index (shelf_of store.new).index }
+{
+    if luck.is_down() {
+        return Err(luck.fault());
+    }
+    match luck.turn() {
+        Turn::Fails => Err(luck.refuse(Turn::Fails, false)),
+        Turn::Strikes(pick) => {
+            if pick % 2 != 1 {
+                return Err(luck.strike(pick));
+            }
+            store.make_one(path)?;
+            Err(luck.strike(pick))
+        }
+        Turn::Goes => {
+            store.make_one(path)?;
+            luck.count();
+            Ok(())
+        }
+    }
+}
+
+// A file is put in place. From and to the same path there is nothing to do.
+pub fn place_parts(
+    store: &mut Store,
+    luck: &mut Luck,
+    from: &Name,
+    to: &Name,
+) -> Result<(), DepotFail>
+    ensures outcome { (es : List (ℕ × List ℕ)) → Outcome (lacks from.now (told_in store.old).now) (placed from.now to.now) (when_odd (placed from.now to.now)) result (state_of (told_in store.old) luck.old es) (state_of (told_in store.new) luck.new es) }
+    ensures paths { KeepsPathsBut from.now (shelf_of store.old).index (shelf_of store.new).index }
+{
+    if luck.is_down() {
+        return Err(luck.fault());
+    }
+    let turn = luck.turn();
+    let Some(at) = place_of(&store.index, from) else {
+        return Err(luck.refuse(turn, true));
+    };
+    match turn {
+        Turn::Fails => Err(luck.refuse(Turn::Fails, false)),
+        Turn::Strikes(pick) => {
+            if pick % 2 != 1 {
+                return Err(luck.strike(pick));
+            }
+            store.move_one(from, to, at)?;
+            Err(luck.strike(pick))
+        }
+        Turn::Goes => {
+            store.move_one(from, to, at)?;
+            luck.count();
+            Ok(())
+        }
+    }
+}
+
+// A write.
+pub fn write_parts(
+    store: &mut Store,
+    luck: &mut Luck,
+    at: usize,
+    offset: u64,
+    bytes: &[u8],
+) -> Result<(), DepotFail>
+    requires within { at < length store.old.places.items }
+    ensures outcome { (path : List ℕ) (es : List (ℕ × List ℕ)) → (shelf_of store.old).index path ≡ Some at → Outcome (is_far path offset (length bytes.now) (told_in store.old).now) (wrote path offset bytes.now) (torn_write path offset bytes.now) result (state_of (told_in store.old) luck.old es) (state_of (told_in store.new) luck.new es) }
+    ensures past_end { 2 ^ 41 < offset + length bytes.now → IsErr result × told_in store.new ≡ told_in store.old }
+    ensures index { store.new.index ≡ store.old.index }
+{
+    if luck.is_down() {
+        return Err(luck.fault());
+    }
+    let turn = luck.turn();
+    if is_past_end(offset, bytes.len()) {
+        let far = is_behind(&store.places[at], offset);
+        return Err(luck.refuse(turn, far));
+    }
+    match turn {
+        Turn::Fails => Err(luck.refuse(Turn::Fails, false)),
+        Turn::Strikes(pick) => {
+            store.write_one(at, offset as usize, bytes)?;
+            Err(luck.strike(pick))
+        }
+        Turn::Goes => {
+            store.write_one(at, offset as usize, bytes)?;
+            luck.count();
+            Ok(())
+        }
+    }
+}
+
+// Whether a write would end above the greatest end.
+fn is_past_end(offset: u64, count: usize) -> bool
+    ensures { result ≡ is_past_end offset count }
+{
+    offset > MAX_END || count as u64 > MAX_END - offset
+}
+
+// Whether a place is above both the greatest size and the file's length.
+fn is_behind(place: &Place, offset: u64) -> bool
+    ensures { result ≡ (nat_lt (2 ^ 40) offset && is_behind offset (Some (file_of (slot_view place.now)))) }
+{
+    if offset <= MAX_FILE_SIZE {
+        return false;
+    }
+    offset > place.bytes.len() as u64
+}
+
+// A sync. It takes no memory, so it never answers the want of it.
+pub fn sync_parts(store: &mut Store, luck: &mut Luck, at: usize) -> Result<(), DepotFail>
+    requires { at < length store.old.places.items }
+    ensures outcome { (path : List ℕ) (es : List (ℕ × List ℕ)) → (shelf_of store.old).index path ≡ Some at → Outcome false (synced_at path) (λ pick d. d) result (state_of (told_in store.old) luck.old es) (state_of (told_in store.new) luck.new es) }
+    ensures memory { IsErrOf result DepotFail.NoMemory → ⊥ }
+    ensures kept { OnErr result (told_in store.new ≡ told_in store.old) }
+    ensures index { store.new.index ≡ store.old.index }
+{
+    if luck.is_down() {
+        return Err(luck.fault());
+    }
+    match luck.turn() {
+        Turn::Fails => Err(luck.refuse(Turn::Fails, false)),
+        Turn::Strikes(pick) => Err(luck.strike(pick)),
+        Turn::Goes => {
+            store.sync_one(at);
+            luck.count();
+            Ok(())
+        }
+    }
+}
