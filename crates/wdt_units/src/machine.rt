@@ -22,6 +22,9 @@ pub trait Machine {
     /// What the machine keeps of one lane alone.
     type Stand;
 
+    /// What may be handed in.
+    ghost fits: { Self.Put → Type 0 };
+
     /// How many lanes there are, where that is known.
     ghost lanes: { Self → Option ℕ };
 
@@ -47,7 +50,8 @@ pub trait Machine {
     /// One turn of a lane. `Err` is want of memory: it hands the input back, and the history and the
     /// lane's stand stay.
     fn turn(&mut self, lane: Lane, put: Self::Put) -> Result<Self::Act, Self::Put>
-        requires { Below (lanes self.old) lane.0 }
+        requires lane { Below (lanes self.old) lane.0 }
+        requires fits { fits put }
         ensures ok { IfOk result (λ act. (more : List Self.Entry) × (history self.new ≡ history self.old ++ more) × AllOf lane_of lane.0 more × (counted self.old + length more ≤ counted self.new) × turned lane.0 put (history self.old) (stand self.old lane.0) act more (stand self.new lane.0)) }
         ensures err { IfErr result (λ back. (back ≡ put) × (history self.new ≡ history self.old) × (stand self.new lane.0 ≡ stand self.old lane.0) × (counted self.new ≡ counted self.old)) }
         ensures others { (other : ℕ) → other ≢ lane.0 → stand self.new other ≡ stand self.old other }

@@ -55,7 +55,7 @@ struct Recorder {
 }
 
 impl Machine for Recorder {
-    ghost use Rattle.std.specs.Prelude.{◌≡◌, [], ◌∷◌, length, Some, None};
+    ghost use Rattle.std.specs.Prelude.{◌≡◌, ◌<◌, [], ◌∷◌, length, Some, None};
     ghost use Rattle.wdt_units.specs.Lanes.{few_loose};
 
     type Put = u64;
@@ -65,6 +65,9 @@ impl Machine for Recorder {
     type Entry = (u8, u64);
 
     type Stand = ();
+
+    // It takes numbers below 10.
+    ghost fits = { λ put. put < 10 };
 
     ghost lanes = { λ _. None };
 
@@ -97,7 +100,8 @@ impl Machine for Recorder {
 
 // Makes one turn of each of two lanes, and answers the acts.
 fn two_turns<M: Machine<Put = u64, Act = u64>>(machine: &mut M) -> (u64, u64)
-    requires { Below (M.lanes machine.old) 1 }
+    requires lanes { Below (M.lanes machine.old) 1 }
+    requires fits { M.fits 7 × M.fits 9 }
 {
     let first = machine.turn(Lane(1), 7).unwrap_or(0);
     let second = machine.turn(Lane(0), 9).unwrap_or(0);
