@@ -1,0 +1,15 @@
+pub mod Appending
+mod Covering
+mod EntryReading
+mod Gates
+mod Having
+mod Keeping
+pub mod Lawful
+pub mod Prefix
+pub mod Reach
+pub mod Reread
+mod Results
+mod Rows
+pub mod Slots
+pub mod Spans
+pub mod Views
