@@ -1,0 +1,22 @@
+-- What an image must hold before a batch may count.
+use Rattle.std.specs.Prelude.{◌≡◌, List, [], ◌∷◌, Some}
+use Rattle.wdt_units.specs.Have.{PlainSpan}
+use Rattle.wdt_units.specs.Tree.{File}
+use Rattle.wdt_depot.specs.Disk.{Image}
+use Rattle.wdt_logfmt.specs.declared.entry.LogEntry.{LogEntry}
+use Rattle.wdt_logfmt.specs.declared.entry.LogEntry.TheVariants.{File as Named, Covered}
+use Rattle.wdt_logfmt.specs.Adding.{added, just_named, span_at}
+use Rattle.wdt_logfmt.specs.Spelling.{written_version}
+use Rattle.wdt_logfmt.specs.View.{NamedFile}
+use Rattle.wdt_good.specs.Good.{Each, FitsTree, HasTreeBytes, Stands}
+
+-- For an entry behind these files: a file that it names is the tree's, and stands; a span that it covers
+-- holds the tree's bytes.
+abbrev pub HoldsEntry : List File → Image → List NamedFile → LogEntry → Type 0
+HoldsEntry T i fs (Named number path size stamp) = FitsTree T (just_named number path size stamp) × Stands (i path) (just_named number path size stamp)
+HoldsEntry T i fs (Covered number offset count) = Each (λ f. f.number ≡ number → HasTreeBytes T (i f.have.path) f (span_at offset count ∷ [])) fs
+
+-- the same for each entry of a batch, behind the files that those before it lead to
+abbrev pub HoldsBatch : List File → Image → List NamedFile → List LogEntry → Type 0
+HoldsBatch T i fs [] = Unit {0}
+HoldsBatch T i fs (e ∷ es) = HoldsEntry T i fs e × ((gs : List NamedFile) → added written_version fs e ≡ Some gs → HoldsBatch T i gs es)
