@@ -16,9 +16,7 @@ pub fn what_fits_is_good()
 /// While a log leads from some files to others and all else stays, each image is good for what was
 /// logged before.
 pub fn a_log_that_leads_on_is_good()
-    ensures {
-        (T : List File) (forgotten : List (List ℕ)) (fs gs : List NamedFile) (end : ℕ) (d e : Disk) (log : DiskFile)
+    ensures { (T : List File) (forgotten : List (List ℕ)) (fs gs : List NamedFile) (end : ℕ) (d e : Disk) (log : DiskFile)
         → IsSoundDisk d → LogOf fs end d → Leads T forgotten fs gs d → HasLog d log e
-        → ((bytes : List ℕ) → IsFileImage log bytes → MeansEither fs gs bytes) → AllGood T forgotten d e
-    }
+        → ((bytes : List ℕ) → IsFileImage log bytes → MeansEither fs gs bytes) → AllGood T forgotten d e }
 {}

@@ -1,0 +1,15 @@
+pub mod Compares
+pub mod Counts
+pub mod Ends
+pub mod Entries
+pub mod Keeps
+pub mod Listings
+pub mod Machines
+pub mod Marks
+pub mod Plans
+pub mod Queues
+pub mod Readings
+pub mod Results
+pub mod Starts
+pub mod Steps
+pub mod Tabulates

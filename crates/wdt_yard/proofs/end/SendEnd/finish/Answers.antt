@@ -1,0 +1,7 @@
+use Rattle.std.proofs.Common.{refl}
+use Rattle.wdt_sender_fsm.specs.declared.events.SendEvent.TheVariants as events
+use Rattle.wdt_yard.proofs.Ends.{end_noted}
+use Rattle.wdt_yard.proofs.end.SendEnd.finish.Goals as goal
+
+pub invariant_of-self : goal.invariant_of-self
+invariant_of-self c = rw c.finish.ensures (end_noted (events.Finish c.args.lane) (λ l past. refl) c.self.invariant)

@@ -1,0 +1,7 @@
+pub mod End
+pub mod EndInside
+pub mod Kept
+pub mod Kinds
+pub mod Ledger
+pub mod Tallies
+pub mod Turns
