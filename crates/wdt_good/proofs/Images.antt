@@ -1,8 +1,8 @@
 -- An image is good where its log means the files of before, or those that they lead to, and all else is as
 -- it was.
-use Rattle.std.proofs.Common.{◌≡◌, ◌⊎◌, inl, inr, ℕ, ◌^◌, ◌≤◌, Bool, true, false, List, [], ◌∷◌, ◌++◌, length, Option, Some, None, Result, Ok, refl, sym, ap, ◌∙◌, subst, arith}
-use Rattle.std.specs.Prelude.{if◌then◌else◌, option_map, not, nat_lt, nat_le, ◌&&◌, ◌||◌, codes}
-use Rattle.std.specs.List.{list_all, list_any}
+use Rattle.std.proofs.Common.{◌≡◌, ◌⊎◌, inl, inr, ℕ, ◌^◌, Bool, true, false, List, [], ◌∷◌, ◌++◌, length, Option, Some, None, Result, Ok, refl, sym, ap, ◌∙◌, subst}
+use Rattle.std.specs.Prelude.{if◌then◌else◌, option_map, not, nat_lt, nat_le, ◌&&◌, codes}
+use Rattle.std.specs.List.{list_all}
 use Rattle.std.specs.Str.{bytes_eq}
 use Rattle.std.proofs.lemmas.Bool.{and_parts, not-true, or_parts}
 use Rattle.std.proofs.lemmas.Slice.Eq.{bytes_eq-Decides}
@@ -11,8 +11,7 @@ use Rattle.wdt_units.specs.Tree.{File}
 use Rattle.wdt_depot.specs.Disk.{Disk, DiskFile, IfFile, Image, IsFileImage, IsImage, IsSound, IsSoundDisk, MayLeave, clean}
 use Rattle.wdt_depot.proofs.Images.{clean_image, synced_is_image}
 use Rattle.wdt_logfmt.specs.declared.entry.LogEntry.{LogEntry}
-use Rattle.wdt_logfmt.specs.View.{Meaning, NamedFile, is_file, is_nameable, is_view, names}
-use Rattle.wdt_logfmt.specs.Meaning.{log_meaning}
+use Rattle.wdt_logfmt.specs.View.{Meaning, NamedFile, is_file, is_view, names}
 use Rattle.wdt_logfmt.proofs.Reach.{means-closed}
 use Rattle.wdt_logfmt.proofs.Views.{file_parts, view_parts, eq_sym}
 use Rattle.wdt_good.specs.Good.{Each, GoodFile, GoodFiles, IsGood, covers, log_of, log_path, meaning_in, new_log_path}

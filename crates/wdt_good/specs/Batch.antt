@@ -1,6 +1,5 @@
 -- What an image must hold before a batch may count.
 use Rattle.std.specs.Prelude.{◌≡◌, List, [], ◌∷◌, Some}
-use Rattle.wdt_units.specs.Have.{PlainSpan}
 use Rattle.wdt_units.specs.Tree.{File}
 use Rattle.wdt_depot.specs.Disk.{Image}
 use Rattle.wdt_logfmt.specs.declared.entry.LogEntry.{LogEntry}

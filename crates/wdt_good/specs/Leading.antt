@@ -2,7 +2,7 @@
 use Rattle.std.specs.Prelude.{◌≡◌, ◌⊎◌, ℕ, false, List, Some, Ok, IsTrue}
 use Rattle.std.specs.Str.{bytes_eq}
 use Rattle.wdt_units.specs.Tree.{File}
-use Rattle.wdt_depot.specs.Disk.{Disk, DiskFile, Image, IsFileImage, IsImage}
+use Rattle.wdt_depot.specs.Disk.{Disk, DiskFile, Image, IsImage}
 use Rattle.wdt_logfmt.specs.View.{Meaning, NamedFile, is_view, names}
 use Rattle.wdt_logfmt.specs.Meaning.{log_meaning}
 use Rattle.wdt_good.specs.Good.{GoodFiles, covers, log_path, new_log_path}

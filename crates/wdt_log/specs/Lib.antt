@@ -1,0 +1,5 @@
+pub mod OpenLog
+pub mod Stages
+pub mod Answers
+pub mod Places
+pub mod Opening

@@ -1,0 +1,128 @@
+//! Opening a log, and making one.
+ghost use Rattle.std.specs.Prelude.{◌≡◌, ◌<◌, ◌^◌, false, [], List, None, Ok, Some, IfErr, IfOk, IsErrOf, IsTrue, MatchOption, OnErr, OnOk};
+ghost use Rattle.wdt_units.specs.Path.{is_lawful};
+ghost use Rattle.wdt_units.specs.Tree.{File};
+ghost use Rattle.wdt_depot.specs.Disk.{seen_of, synced_at};
+ghost use Rattle.wdt_depot.specs.Moments.{IfTold, Run};
+ghost use Rattle.wdt_depot.specs.State.{Counts, IfFileAt, IsEntered, OnlyLooks, at_spot};
+ghost use Rattle.wdt_logfmt.specs.Meaning.{log_meaning};
+ghost use Rattle.wdt_logfmt.specs.View.{is_view, meaning_of, named_files};
+ghost use Rattle.wdt_good.specs.Good.{log_path, new_log_path};
+ghost use Rattle.wdt_good.specs.LogState.{LogOf};
+ghost use Rattle.wdt_good.specs.Logged.{AllFit, GoodSince};
+ghost use Rattle.wdt_log.specs.Answers.{IsOfDepot, IsOpeningFail};
+ghost use Rattle.wdt_log.specs.Opening.{IsMaking, IsSyncing, Makes, OpensAs, Syncs};
+
+use crate::fail::LogFail;
+use crate::writing::put;
+use std::alloc::Global;
+use wdt_depot::Depot;
+use wdt_logfmt::{LogView, read_log};
+use wdt_units::{Name, NoMemory, Spot};
+
+/// The path of the log.
+const LOG: [u8; 5] = *b".wlog";
+
+/// Where a new log is written, before it is put in place.
+const NEW_LOG: [u8; 9] = *b".wlog.new";
+
+/// The bytes of a log that names no file: the header, and a closed gate.
+const EMPTY: [u8; 7] = *b"WDTL\0\x01\0";
+
+/// What the log of the depot says, which is at the path that is given back. Where no log is there, one
+/// is made.
+pub fn find<D: Depot>(alloc: Global, depot: &mut D) -> Result<(LogView, Name), LogFail>
+    requires spots { (D.state depot.old).spots ≡ [] }
+    ensures images { (T : List File) → IfTold (λ t. AllFit T t.now) (D.state depot.old).told → GoodSince T [] (D.state depot.old).told (D.state depot.new).told }
+    ensures logged { IfOk result (λ found. IfTold (λ t. LogOf (meaning_of found.0).files (meaning_of found.0).end t.now) (D.state depot.new).told) }
+    ensures means { IfOk result (λ found. IfTold (λ t. OpensAs (seen_of t.now log_path) (meaning_of found.0)) (D.state depot.old).told) }
+    ensures view { IfOk result (λ found. IsTrue (is_view (named_files (found.0).files.items))) }
+    ensures room { IfOk result (λ found. (found.0).end < 2 ^ 63) }
+    ensures path { IfOk result (λ found. found.1 ≡ log_path) }
+    ensures refused { IfErr result (λ fail. IsOpeningFail (D.state depot.old).told fail) }
+    ensures spots { (D.state depot.new).spots ≡ [] }
+    ensures counts { Counts (IsErrOf result LogFail.Disk) (D.state depot.old) (D.state depot.new) }
+{
+    let path = Name::of_lawful(alloc, &LOG)?;
+    let found = read(alloc, depot, &path)?;
+    match found {
+        Some(bytes) => {
+            let view = read_log(alloc, &bytes)?;
+            Ok((view, path))
+        }
+        None => {
+            let view = make(alloc, depot, &path)?;
+            Ok((view, path))
+        }
+    }
+}
+
+// The bytes of the log that is there, synced.
+fn read<D: Depot>(alloc: Global, depot: &mut D, log: &Name) -> Result<Option<Vec<u8>>, LogFail>
+    requires path { log.now ≡ log_path }
+    requires spots { (D.state depot.old).spots ≡ [] }
+    ensures bytes { IfOk result (λ found. IfTold (λ t. MatchOption found (t.now log_path ≡ None) (λ bytes. seen_of t.now log_path ≡ Some bytes.items)) (D.state depot.old).told) }
+    ensures none { IfOk result (λ found. MatchOption found ((D.state depot.new).told ≡ (D.state depot.old).told) (λ _. Run IsSyncing (λ d x. x ≡ synced_at log_path d) (D.state depot.old).told (D.state depot.new).told)) }
+    ensures moments { Run IsSyncing IsSyncing (D.state depot.old).told (D.state depot.new).told }
+    ensures spots { (D.state depot.new).spots ≡ [] }
+    ensures never { IfErr result (λ fail. IsOfDepot fail) }
+    ensures counts { Counts (IsErrOf result LogFail.Disk) (D.state depot.old) (D.state depot.new) }
+{
+    let Some(spot) = depot.enter(log)? else {
+        return Ok(None);
+    };
+    let result = read_synced(alloc, depot, spot);
+    depot.leave(spot);
+    Ok(Some(result?))
+}
+
+fn read_synced<D: Depot>(alloc: Global, depot: &mut D, spot: Spot) -> Result<Vec<u8>, LogFail>
+    requires entered { IsEntered spot.0 (D.state depot.old) }
+    requires path { at_spot spot.0 (D.state depot.old) ≡ log_path }
+    ensures bytes { IfOk result (λ bytes. IfFileAt (λ f. f.seen ≡ bytes.items) log_path (D.state depot.old)) }
+    ensures moments { Run IsSyncing (Syncs result) (D.state depot.old).told (D.state depot.new).told }
+    ensures spots { (D.state depot.new).spots ≡ (D.state depot.old).spots }
+    ensures never { IfErr result (λ fail. IsOfDepot fail) }
+    ensures counts { Counts (IsErrOf result LogFail.Disk) (D.state depot.old) (D.state depot.new) }
+{
+    depot.sync(spot)?;
+    read_all(alloc, depot, spot)
+}
+
+// The bytes of a file.
+fn read_all<D: Depot>(alloc: Global, depot: &mut D, spot: Spot) -> Result<Vec<u8>, LogFail>
+    requires entered { IsEntered spot.0 (D.state depot.old) }
+    ensures bytes { IfOk result (λ bytes. IfFileAt (λ f. f.seen ≡ bytes.items) (at_spot spot.0 (D.state depot.old)) (D.state depot.old)) }
+    ensures looks { OnlyLooks (D.state depot.old) (D.state depot.new) }
+    ensures spots { (D.state depot.new).spots ≡ (D.state depot.old).spots }
+    ensures never { IfErr result (λ fail. IsOfDepot fail) }
+    ensures counts { Counts (IsErrOf result LogFail.Disk) (D.state depot.old) (D.state depot.new) }
+{
+    let length = depot.length(spot)?;
+    let mut bytes = Vec::new(alloc);
+    bytes.resize(length as usize, 0)?;
+    let read = depot.read_at(spot, 0, &mut bytes)?;
+    bytes.truncate(read);
+    Ok(bytes)
+}
+
+// Makes a log that names no file, beside its place, and puts it there once it is on the disk.
+fn make<D: Depot>(alloc: Global, depot: &mut D, log: &Name) -> Result<LogView, LogFail>
+    requires path { log.now ≡ log_path }
+    requires spots { (D.state depot.old).spots ≡ [] }
+    ensures moments { Run IsMaking (Makes result) (D.state depot.old).told (D.state depot.new).told }
+    ensures view { IfOk result (λ view. meaning_of view ≡ record { files = []; end = 6 }) }
+    ensures spots { (D.state depot.new).spots ≡ [] }
+    ensures never { IfErr result (λ fail. IsOfDepot fail) }
+    ensures counts { Counts (IsErrOf result LogFail.Disk) (D.state depot.old) (D.state depot.new) }
+{
+    let new = Name::of_lawful(alloc, &NEW_LOG)?;
+    depot.make(&new)?;
+    let spot = depot.need(&new)?;
+    let result = put(depot, spot, 0, &EMPTY);
+    depot.leave(spot);
+    result?;
+    depot.put_in_place(&new, log)?;
+    let files = Vec::new(alloc);
+    Ok(LogView { files, end: 6 })
+}
