@@ -1,7 +1,7 @@
 -- Files have one order, and `in_order` finds it.
-use Rattle.std.proofs.Common.{◌≡◌, ℕ, zero, suc, Bool, true, false, List, [], ◌∷◌, Option, Some, None, refl, sym, ap, ◌∙◌, slice_get, ◌⊎◌, inl, inr, subst, if◌then◌else◌}
+use Rattle.std.proofs.Common.{◌≡◌, ℕ, Bool, true, false, List, [], ◌∷◌, ◌&&◌, Option, Some, None, refl, sym, ap, ◌∙◌, if◌then◌else◌}
 use Rattle.std.specs.Prelude.{IsTrue}
-use Rattle.std.specs.List.{AllByRecursion, Contains, IsDistinct, list_all, list_any}
+use Rattle.std.specs.List.{AllByRecursion, IsDistinct, list_all, list_any}
 use Rattle.std.specs.List.Sorted.{IsPermutation}
 use Rattle.std.specs.Ordering.{is_eq, is_lt, nat_cmp, ordering_reverse}
 use Rattle.std.specs.declared.cmp.Ordering.{Ordering}
@@ -10,94 +10,24 @@ use Rattle.std.specs.Cmp.Lexicographic.{slice_cmp}
 use Rattle.std.specs.Str.{bytes_eq}
 use Rattle.std.proofs.lemmas.Bool.{and_from, or_parts}
 use Rattle.std.proofs.lemmas.Cmp.{eq_by_cmp_equiv, nat_list_cmp_total}
-use Rattle.std.proofs.lemmas.List.Sorted.{Contains-permutation, IsPermutation-sym, IsPermutation-trans, list_any-IsPermutation}
+use Rattle.std.proofs.lemmas.List.Sorted.{IsPermutation-sym, IsPermutation-trans, list_any-IsPermutation}
 use Rattle.std.proofs.lemmas.Map.Keys.{IsDistinct-IsPermutation}
 use Rattle.std.proofs.lemmas.Map.Text.{is_eq-slice_cmp}
-use Rattle.std.proofs.lemmas.Option.{slice_get_within, get_or_from_slice_get, slice_get-get_or}
 use Rattle.wdt_units.specs.Tree.{File, is_below, is_rising, is_tree}
-use Rattle.wdt_tree.proofs.Files.{and_split, list_all-at, rising}
+use Rattle.wdt_tree.proofs.Files.{and_split, rising}
+use Rattle.wdt_tree.proofs.OneOrder.{rises, before-one_way, one-order as rising_order}
 use Rattle.wdt_source.specs.Laws.{same_files}
 use Rattle.wdt_source.specs.Order.{put, in_order, tree_of}
 use Rattle.wdt_source.specs.Place.{has_path}
 
 -- ---- a rising list is one
 
-Has : List File → File → Type 0
-Has xs x = (k : ℕ) × (slice_get xs k ≡ Some x)
+as_rises : (xs : List File) → rises is_below xs ≡ is_rising xs
+as_rises [] = refl
+as_rises (x ∷ xs) = ap (λ b. list_all (is_below x) xs && b) (as_rises xs)
 
-has : (xs : List File) (x : File) → Contains xs x → Has xs x
-unfolding Has
-has xs x h = (h.0, slice_get-get_or xs h.0 x h.1 ∙ ap Some h.2)
-
-contains : (xs : List File) (x : File) → Has xs x → Contains xs x
-unfolding Has
-contains xs x h = (h.0, slice_get_within xs h.0 x h.1, get_or_from_slice_get xs h.0 x x h.1)
-
-not_both : (o p : Ordering) → o ≡ ordering_reverse p → is_lt o ≡ true → is_lt p ≡ true → ⊥
-not_both Less Less e h k = cc
-not_both Less Equal e h k = cc
-not_both Less Greater e h k = cc
-not_both Equal p e h k = cc
-not_both Greater p e h k = cc
-
-not_below : (a b : File) → is_below a b ≡ true → is_below b a ≡ true → ⊥
-not_below a b h k = not_both (slice_cmp nat_cmp a.path b.path) (slice_cmp nat_cmp b.path a.path) (nat_list_cmp_total.antisymm a.path b.path) h k
-
-nothing : (x : File) → Has [] x → ⊥
-unfolding Has
-nothing x h = let e : None ≡ Some x = h.1 in cc
-
--- what a list has is its first, or above it
-cases : (x : File) (xs : List File) (z : File) → is_rising (x ∷ xs) ≡ true → Has (x ∷ xs) z → (x ≡ z) ⊎ (Has xs z × (is_below x z ≡ true))
-unfolding Has
-cases x xs z up (zero, e) = inl (let h : Some x ≡ Some z = e in cc)
-cases x xs z up (suc k, e) = inr ((k, e), list_all-at (is_below x) xs k z ((and_split (list_all (is_below x) xs) (is_rising xs) up).0) e)
-
-first : (x : File) (xs : List File) → Has (x ∷ xs) x
-unfolding Has
-first x xs = (zero, refl)
-
-later : (x : File) (xs : List File) (z : File) → Has xs z → Has (x ∷ xs) z
-unfolding Has
-later x xs z h = (suc h.0, h.1)
-
-heads : (x y : File) (xs ys : List File) → is_rising (x ∷ xs) ≡ true → is_rising (y ∷ ys) ≡ true → Has (y ∷ ys) x → Has (x ∷ xs) y → x ≡ y
-heads x y xs ys ux uy f g =
-    elim (cases y ys x uy f) [
-      | inl e ↦ sym e
-      | inr below ↦
-          elim (cases x xs y ux g) [ inl e ↦ e | inr above ↦ absurd (not_below x y above.1 below.1) ]
-    ]
-
-strict : (x : File) (xs : List File) (z : File) → is_rising (x ∷ xs) ≡ true → Has xs z → x ≡ z → is_below x x ≡ true
-unfolding Has
-strict x xs z up h same =
-    let below : is_below x z ≡ true = list_all-at (is_below x) xs h.0 z ((and_split (list_all (is_below x) xs) (is_rising xs) up).0) h.1 in
-    subst (λ (w : File). is_below x w ≡ true) (sym same) below
-
-above_first : (x y : File) (xs ys : List File) → is_rising (x ∷ xs) ≡ true → is_rising (y ∷ ys) ≡ true → x ≡ y
-    → ((z : File) → Has (x ∷ xs) z → Has (y ∷ ys) z) → (z : File) → Has xs z → Has ys z
-above_first x y xs ys ux uy same f z h =
-    elim (cases y ys z uy (f z (later x xs z h))) [
-      | inr w ↦ w.0
-      | inl e ↦
-          let b : is_below x x ≡ true = strict x xs z ux h (same ∙ e) in absurd (not_below x x b b)
-    ]
-
-unique : (xs ys : List File) → is_rising xs ≡ true → is_rising ys ≡ true → ((z : File) → Has xs z → Has ys z) → ((z : File) → Has ys z → Has xs z) → xs ≡ ys
-unique [] [] ux uy f g = refl
-unique [] (y ∷ ys) ux uy f g = absurd (nothing y (g y (first y ys)))
-unique (x ∷ xs) [] ux uy f g = absurd (nothing x (f x (first x xs)))
-unique (x ∷ xs) (y ∷ ys) ux uy f g =
-    let same : x ≡ y = heads x y xs ys ux uy (f x (first x xs)) (g y (first y ys)) in
-    let rest : xs ≡ ys = unique xs ys ((and_split _ (is_rising xs) ux).1) ((and_split _ (is_rising ys) uy).1)
-    (above_first x y xs ys ux uy same f) (above_first y x ys xs uy ux (sym same) g) in
-    cc
-
--- two lists of the same files in the order of their paths are one
 one-order : (xs ys : List File) → is_rising xs ≡ true → is_rising ys ≡ true → IsPermutation xs ys → xs ≡ ys
-one-order xs ys ux uy p =
-    unique xs ys ux uy (λ z h. has ys z (Contains-permutation xs ys z p (contains xs z h))) (λ z h. has xs z (Contains-permutation ys xs z (IsPermutation-sym xs ys p) (contains ys z h)))
+one-order xs ys ux uy p = rising_order is_below (λ a b. before-one_way a.path b.path) xs ys (as_rises xs ∙ ux) (as_rises ys ∙ uy) p
 
 -- ---- files whose paths differ rise in order
 

@@ -5,3 +5,4 @@ pub mod Doubles
 pub mod Refusals
 pub mod Cuts
 pub mod RestOnce
+pub mod OneOrder
