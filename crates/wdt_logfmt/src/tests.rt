@@ -170,6 +170,78 @@ fn is_whole(file: &LogFile, number: u32, path: &[u8], size: u64, stamp: u64) -> 
         && have.spans.spans().len() == 1
 }
 
+// Appends a number in so many bytes, the high byte first.
+fn push_number(bytes: &mut Vec<u8>, number: u64, count: u32) -> Result<(), Fail> {
+    for at in 0..count.min(8) {
+        let shift = 8 * (count.min(8) - 1 - at);
+        bytes.push(((number >> shift) & 0xFF) as u8)?;
+    }
+    Ok(())
+}
+
+// A log of one open batch: files of 2^40 bytes, and of each as many spans of one length from its start
+// on, whose places are a step apart.
+fn covered(alloc: Global, files: u32, spans: u32, length: u32, step: u64) -> Result<Vec<u8>, Fail> {
+    let mut bytes = Vec::new(alloc);
+    bytes.extend_from_slice(b"WDTL\0\x01\x01")?;
+    let size = (files as u64).saturating_mul(25 + 17 * spans as u64);
+    push_number(&mut bytes, size, 4)?;
+    for number in 0..files {
+        bytes.push(0x46)?;
+        push_number(&mut bytes, number as u64, 4)?;
+        bytes.extend_from_slice(&[
+            0,
+            2,
+            (65 + (number / 32) % 64) as u8,
+            (65 + number % 32) as u8,
+        ])?;
+        push_number(&mut bytes, 1_099_511_627_776, 8)?;
+        push_number(&mut bytes, 0, 8)?;
+        let mut offset: u64 = 0;
+        for _ in 0..spans {
+            bytes.push(0x4D)?;
+            push_number(&mut bytes, number as u64, 4)?;
+            push_number(&mut bytes, offset, 8)?;
+            push_number(&mut bytes, length as u64, 4)?;
+            offset = offset.saturating_add(step);
+        }
+    }
+    bytes.push(0)?;
+    Ok(bytes)
+}
+
+#[test]
+fn tells_where_a_log_covers_too_much(rt: HostRuntime) -> Result<(), Fail> {
+    let alloc = rt.alloc();
+    // One span more than 1,310,720; one file more than those that have 2^50 bytes together.
+    for (label, files, spans, length, step, want) in [
+        (
+            "too many spans",
+            1,
+            1_310_721,
+            1,
+            2,
+            11 + 25 + 17 * 1_310_720,
+        ),
+        (
+            "too many bytes",
+            1_025,
+            16_384,
+            67_108_864,
+            67_108_864,
+            11 + 1_025 * 25 + 1_024 * 17 * 16_384,
+        ),
+    ] {
+        match read_log(alloc, &covered(alloc, files, spans, length, step)?) {
+            Err(ReadLogFail::BadLog { at }) => assert!(rt; at == want, "{label}"),
+            _ => assert!(rt; false, "{label}"),
+        }
+    }
+    let view = read_log(alloc, &covered(alloc, 1, 1_310_720, 1, 2)?)?;
+    assert!(rt; view.files.len() == 1 && view.end == 11 + 25 + 17 * 1_310_720);
+    Ok(())
+}
+
 // Appends a batch of a file and its two halves.
 fn add_halves(alloc: Global, number: u32, path: &[u8], into: &mut Vec<u8>) -> Result<(), Fail> {
     let path = Name::read(alloc, path)?;
