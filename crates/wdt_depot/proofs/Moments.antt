@@ -68,6 +68,18 @@ run_more P Q Q' R (Some t) (Some u) None r o f = absurd o
 run_more P Q Q' R (Some t) (Some u) (Some v) r o f =
     (since_more (P t.now) R (Some t) (Some u) (Some v) r.0 o (λ e h. (f t.now u.now e r.1 h).0), (f t.now u.now v.now r.1 o.0).1)
 
+-- a run behind another
+pub run_join : (P Q R S P2 Q2 : Disk → Disk → Type 0) (a b c : Option Told) → Run P Q a b → Run R S b c → ((d x : Disk) → P d x → P2 d x) → ((d x y : Disk) → Q d x → R x y → P2 d y) → ((d x y : Disk) → Q d x → S x y → Q2 d y) → Run P2 Q2 a c
+run_join P Q R S P2 Q2 None None None one two f g h = tt
+run_join P Q R S P2 Q2 None None (Some v) one two f g h = absurd two
+run_join P Q R S P2 Q2 None (Some u) c one two f g h = absurd one
+run_join P Q R S P2 Q2 (Some t) None c one two f g h = absurd one
+run_join P Q R S P2 Q2 (Some t) (Some u) None one two f g h = absurd two
+run_join P Q R S P2 Q2 (Some t) (Some u) (Some v) one two f g h = (
+  since-since (P2 t.now) (Some t) (Some u) (Some v) (since_weaker (P t.now) (P2 t.now) (Some t) (Some u) (λ x at. f t.now x at) one.0) (since_weaker (R u.now) (P2 t.now) (Some u) (Some v) (λ y at. g t.now u.now y one.1 at) two.0),
+  h t.now u.now v.now one.1 two.1,
+)
+
 pub run_same : (P Q : Disk → Disk → Type 0) (a b c : Option Told) → Run P Q a b → c ≡ b → Run P Q a c
 run_same P Q a b c r same = subst (λ (x : Option Told). Run P Q a x) (sym same) r
 

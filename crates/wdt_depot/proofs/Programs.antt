@@ -4,8 +4,15 @@ use Rattle.std.specs.Prelude.{if◌then◌else◌}
 use Rattle.std.proofs.lemmas.Bool.Decides.{nat_tests}
 use Rattle.std.proofs.lemmas.Option.{same_Some}
 use Rattle.wdt_depot.specs.Disk.{Disk, wrote}
-use Rattle.wdt_depot.specs.Programs.{Calls, Drive, both, onward, torn_write}
-use Rattle.wdt_depot.specs.State.{is_past_end}
+use Rattle.wdt_depot.specs.Programs.{Calls, Drive, IsQuiet, both, onward, torn_write}
+use Rattle.wdt_depot.specs.State.{State, is_past_end}
+
+-- no own fault came in either of two parts
+pub quiet_parts : (s0 s1 s2 : State) → s0.own ≤ s1.own → s1.own ≤ s2.own → IsQuiet s0 s2 → IsQuiet s0 s1 × IsQuiet s1 s2
+quiet_parts s0 s1 s2 one two quiet =
+    let same = quiet.same in
+    let below = quiet.below in
+    (record { same = omega (arith, one, two, same); below = below }, record { same = omega (arith, one, two, same); below = omega (arith, one, two, same, below) })
 
 -- the first answered Ok: the program goes on
 pub calls_both : (f g : Drive → Bool × Drive) (ok : Bool) (a b c : Option Drive) → Calls f true a b → Calls g ok b c → Calls (both f g) ok a c

@@ -21,7 +21,7 @@ use Rattle.wdt_good.proofs.Images.{fit_good, ok_files}
 use Rattle.wdt_depot.specs.Disk.{IfFile}
 use Rattle.wdt_depot.specs.Moments.{MayDo, OneStep}
 use Rattle.wdt_depot.specs.declared.failure.DepotFail.{DepotFail}
-use Rattle.wdt_depot.proofs.Moments.{run_as}
+use Rattle.wdt_depot.proofs.Moments.{run_as, run_join}
 use Rattle.wdt_units.specs.declared.failures.Failed.{Failed}
 use Rattle.std.proofs.lemmas.Bool.{eq-eqb}
 use Rattle.wdt_units.specs.Path.{is_lawful}
@@ -31,7 +31,7 @@ use Rattle.wdt_log.specs.declared.fail.LogFail.{LogFail}
 use Rattle.wdt_log.specs.declared.fail.LogFail.TheVariants.{Disk as DiskFail, BadLog, Shut, NoMemory}
 use Rattle.wdt_log.specs.Opening.{IsMaking, IsSyncing, Makes, Syncs, made_new, placed_new, synced_new, written_new}
 use Rattle.wdt_log.specs.Stages.{IsPut, Puts, stable}
-use Rattle.wdt_log.proofs.Steps.{begun, called, run_join}
+use Rattle.wdt_log.proofs.Steps.{begun, called}
 use Rattle.wdt_log.proofs.Torn.{over}
 
 -- ---- images whose log means no file

@@ -9,8 +9,8 @@ use Rattle.wdt_depot.specs.Programs.{Calls, IsQuiet, Ran, drive_of, looking, run
 use Rattle.wdt_depot.specs.State.{State, at_spot, path_of, path_or}
 use Rattle.wdt_depot.specs.declared.failure.DepotFail.{DepotFail}
 use Rattle.wdt_depot.specs.declared.failure.DepotFail.TheVariants as depot
-use Rattle.wdt_depot.proofs.Moments.{run_as, run_more, run_same, run_start, since-since, since_weaker}
-use Rattle.wdt_depot.proofs.Programs.{calls_both, calls_first}
+use Rattle.wdt_depot.proofs.Moments.{run_as, run_join, run_more, run_same, run_start}
+use Rattle.wdt_depot.proofs.Programs.{calls_both, calls_first, quiet_parts}
 use Rattle.wdt_good.specs.Good.{log_path}
 use Rattle.wdt_log.specs.declared.fail.LogFail.{LogFail}
 use Rattle.wdt_log.specs.declared.fail.LogFail.TheVariants.{Disk as DiskFail, BadLog, Shut, NoMemory}
@@ -36,26 +36,6 @@ itself (Some t) = refl
 
 pub begun : (P : Disk → Disk → Type 0) (a : Option Told) → Run P (λ d x. x ≡ d) a a
 begun P a = run_start P (λ d x. x ≡ d) a (itself a)
-
--- a run behind another
-pub run_join : (P Q R S P2 Q2 : Disk → Disk → Type 0) (a b c : Option Told) → Run P Q a b → Run R S b c → ((d x : Disk) → P d x → P2 d x) → ((d x y : Disk) → Q d x → R x y → P2 d y) → ((d x y : Disk) → Q d x → S x y → Q2 d y) → Run P2 Q2 a c
-run_join P Q R S P2 Q2 None None None one two f g h = tt
-run_join P Q R S P2 Q2 None None (Some v) one two f g h = absurd two
-run_join P Q R S P2 Q2 None (Some u) c one two f g h = absurd one
-run_join P Q R S P2 Q2 (Some t) None c one two f g h = absurd one
-run_join P Q R S P2 Q2 (Some t) (Some u) None one two f g h = absurd two
-run_join P Q R S P2 Q2 (Some t) (Some u) (Some v) one two f g h = (
-  since-since (P2 t.now) (Some t) (Some u) (Some v) (since_weaker (P t.now) (P2 t.now) (Some t) (Some u) (λ x at. f t.now x at) one.0) (since_weaker (R u.now) (P2 t.now) (Some u) (Some v) (λ y at. g t.now u.now y one.1 at) two.0),
-  h t.now u.now v.now one.1 two.1,
-)
-
--- ---- counts
-
-pub quiet_parts : (s0 s1 s2 : State) → s0.own ≤ s1.own → s1.own ≤ s2.own → IsQuiet s0 s2 → IsQuiet s0 s1 × IsQuiet s1 s2
-quiet_parts s0 s1 s2 one two quiet =
-    let same = quiet.same in
-    let below = quiet.below in
-    (record { same = omega (arith, one, two, same); below = below }, record { same = omega (arith, one, two, same); below = omega (arith, one, two, same, below) })
 
 not_memory : (x : Unit {0}) → IsErrOf {E = DepotFail} (Ok x) depot.NoMemory → ⊥
 not_memory x is = cc

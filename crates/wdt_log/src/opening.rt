@@ -4,7 +4,7 @@ ghost use Rattle.wdt_units.specs.Path.{is_lawful};
 ghost use Rattle.wdt_units.specs.Tree.{File};
 ghost use Rattle.wdt_depot.specs.Disk.{seen_of, synced_at};
 ghost use Rattle.wdt_depot.specs.Moments.{IfTold, Run};
-ghost use Rattle.wdt_depot.specs.State.{Counts, IfFileAt, IsEntered, OnlyLooks, at_spot};
+ghost use Rattle.wdt_depot.specs.State.{Counts, IfFileAt, IsEntered, at_spot};
 ghost use Rattle.wdt_logfmt.specs.Meaning.{log_meaning};
 ghost use Rattle.wdt_logfmt.specs.View.{is_view, meaning_of, named_files};
 ghost use Rattle.wdt_good.specs.Good.{log_path, new_log_path};
@@ -16,7 +16,7 @@ ghost use Rattle.wdt_log.specs.Opening.{IsMaking, IsSyncing, Makes, OpensAs, Syn
 use crate::fail::LogFail;
 use crate::writing::put;
 use std::alloc::Global;
-use wdt_depot::Depot;
+use wdt_depot::{Depot, read_whole};
 use wdt_logfmt::{LogView, read_log};
 use wdt_units::{Name, NoMemory, Spot};
 
@@ -86,23 +86,7 @@ fn read_synced<D: Depot>(alloc: Global, depot: &mut D, spot: Spot) -> Result<Vec
     ensures counts { Counts (IsErrOf result LogFail.Disk) (D.state depot.old) (D.state depot.new) }
 {
     depot.sync(spot)?;
-    read_all(alloc, depot, spot)
-}
-
-// The bytes of a file.
-fn read_all<D: Depot>(alloc: Global, depot: &mut D, spot: Spot) -> Result<Vec<u8>, LogFail>
-    requires entered { IsEntered spot.0 (D.state depot.old) }
-    ensures bytes { IfOk result (λ bytes. IfFileAt (λ f. f.seen ≡ bytes.items) (at_spot spot.0 (D.state depot.old)) (D.state depot.old)) }
-    ensures looks { OnlyLooks (D.state depot.old) (D.state depot.new) }
-    ensures spots { (D.state depot.new).spots ≡ (D.state depot.old).spots }
-    ensures never { IfErr result (λ fail. IsOfDepot fail) }
-    ensures counts { Counts (IsErrOf result LogFail.Disk) (D.state depot.old) (D.state depot.new) }
-{
-    let length = depot.length(spot)?;
-    let mut bytes = Vec::new(alloc);
-    bytes.resize(length as usize, 0)?;
-    let read = depot.read_at(spot, 0, &mut bytes)?;
-    bytes.truncate(read);
+    let bytes = read_whole(alloc, depot, spot)?;
     Ok(bytes)
 }
 
