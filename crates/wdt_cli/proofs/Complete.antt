@@ -4,7 +4,8 @@ use Rattle.wdt_tree.specs.declared.entry.Entry.{Entry}
 use Rattle.wdt_cli.specs.declared.status.Status.{Status}
 use Rattle.wdt_cli.specs.declared.status.Status.TheVariants.{Done, Usage, SourceFault, Refused, OutFault, NoMemory}
 use Rattle.wdt_sender_fsm.specs.declared.answers.RefusedKind.{RefusedKind}
-use Rattle.wdt_cli.specs.Causes.{IsRefusalEnd, IsToldRefused, IsUnrefused, IsDoneOrStarved}
+use Rattle.wdt_rehearsal.specs.Causes.{IsToldRefused}
+use Rattle.wdt_cli.specs.Causes.{IsRefusalEnd, IsUnrefused, IsDoneOrStarved}
 
 none : (listing : Option (List Entry)) (kind other : RefusedKind) → other ≡ kind → IsToldRefused listing kind → IsUnrefused listing (Refused other) → ⊥
 none None kind other e told free = free

@@ -1,10 +1,5 @@
 pub mod Causes
-pub mod Failures
-pub mod Landing
 pub mod Lines
 pub mod Named
 pub mod Numbers
-pub mod Received
-pub mod Replies
-pub mod Sending
 pub mod Words

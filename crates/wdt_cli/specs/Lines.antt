@@ -1,28 +1,15 @@
 -- The lines that a run puts to its sink.
-use Rattle.std.specs.Prelude.{◌≡◌, ℕ, ◌==◌, if◌then◌else◌, List, [], ◌∷◌, ◌++◌, length, take, map, sum_by, codes, Option, Some, None}
+use Rattle.std.specs.Prelude.{◌≡◌, ℕ, ◌==◌, if◌then◌else◌, List, [], ◌∷◌, ◌++◌, take, codes, Option, Some, None}
 use Rattle.std.specs.List.{flat_map}
 use Rattle.std.specs.Fmt.{decimal}
 use Rattle.wdt_units.specs.Counts.{Stands}
-use Rattle.wdt_units.specs.Tree.{File, length_of}
-use Rattle.wdt_units.specs.declared.blocks.Block.{Block}
-use Rattle.wdt_tree.specs.Rest.{IsRest}
-use Rattle.wdt_tree.specs.Shown.{entry_of_file}
-use Rattle.wdt_cli.specs.declared.report.Report.{Report}
+use Rattle.wdt_units.specs.Tree.{File}
+use Rattle.wdt_rehearsal.specs.declared.report.Report.{Report}
+use Rattle.wdt_rehearsal.specs.Reports.{IsReportOf}
 use Rattle.wdt_cli.specs.declared.status.Status.{Status}
 use Rattle.wdt_cli.specs.declared.status.Status.TheVariants.{Done, Usage, SourceFault, Refused, OutFault, NoMemory}
 use Rattle.wdt_sender_fsm.specs.declared.answers.RefusedKind.{RefusedKind}
 use Rattle.wdt_sender_fsm.specs.declared.answers.RefusedKind.TheVariants.{BadScript, BadPath, Reserved, Twice, TooMany, TooLarge, TooManyBlocks, Stale, BadLog}
-
--- what a run counts that landed these files in so many blocks
-abbrev pub report_of : List File → ℕ → Report
-report_of files blocks = record { files = length files; blocks = blocks; bytes = sum_by length_of files }
-
--- the counts of a run that landed these files: its blocks are what was to be sent of them to a
--- destination that has nothing, in blocks of 16,777,216 bytes
-pub record IsReportOf (files : List File) (report : Report) : Type 0 where
-  pub blocks : List Block
-  pub rest : IsRest (map entry_of_file files) [] 16777216 blocks
-  pub is : report ≡ report_of files (length blocks)
 
 -- the seven lines of a report, and the last line of a run that is done
 abbrev pub done_text : Report → List ℕ

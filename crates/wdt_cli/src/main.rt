@@ -6,12 +6,7 @@
 #![tactic(auto)]
 
 mod help;
-mod reading;
-mod receiver;
-mod rehearse;
-mod replies;
 mod report;
-mod session;
 mod status;
 #[cfg(test)]
 mod tests;

@@ -3,15 +3,8 @@ ghost use Rattle.std.specs.Prelude.{◌≡◌, ◌++◌, IfOk, OnOk, codes, stri
 ghost use Rattle.wdt_cli.specs.Lines.{done_text, printed, refusal_line};
 
 use std::alloc::{AllocError, Global};
+use wdt_rehearsal::Report;
 use wdt_sender_fsm::RefusedKind;
-
-/// What a run over one connection and in one session counts.
-#[derive(Clone, Copy, Debug, PartialEq, Eq)]
-pub struct Report {
-    pub files: u32,
-    pub blocks: u64,
-    pub bytes: u64,
-}
 
 /// The lines of a report and the last line of a run that is done.
 pub fn done_text(alloc: Global, report: &Report) -> Result<String, AllocError>

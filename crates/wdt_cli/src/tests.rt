@@ -1,7 +1,6 @@
 //! What no clause says: that the runs succeed, and worked examples of their lines.
 ghost use Rattle.std.specs.Prelude.{None};
 
-use crate::rehearse;
 use crate::status::Status;
 use crate::tool::tool;
 use std::alloc::Global;
@@ -209,36 +208,5 @@ fn more_blocks_than_a_session_has_are_refused(rt: HostRuntime) -> Result<(), Fai
         out.bytes(),
         b"refused: too many blocks 1114112\n".as_slice()
     );
-    Ok(())
-}
-
-// Down: settings of version 1, session 1, lane 0 of 1, connection 1, blocks of 16,777,216 bytes, which
-// ask; then the size, each block behind its header, and two times the last word. Up: the greeting of
-// lane 0, that there is nothing, and the last word.
-#[test]
-fn both_ways_have_their_frames(rt: HostRuntime) -> Result<(), Fail> {
-    let trees: [(&[&[u8]], &[u8]); 2] = [
-        (
-            &[],
-            b"\x53\0\x01\0\0\0\0\0\0\0\x01\0\x01\0\x01\x01\0\0\0\x01\
-            \x5a\0\0\0\0\0\0\0\0\0\0\0\0\x4c\x4c",
-        ),
-        (
-            &[b"a"],
-            b"\x53\0\x01\0\0\0\0\0\0\0\x01\0\x01\0\x01\x01\0\0\0\x01\
-            \x5a\0\0\0\x01\0\0\0\0\0\0\0\x02\
-            \x44\0\x01a\0\0\0\0\0\0\0\x02\0\0\0\0\0\0\0\0\0\0\0\0\0\0\0\0\0\0\0\x02hi\x4c\x4c",
-        ),
-    ];
-    for (paths, down) in trees {
-        let mut source = paths_of(rt.alloc(), paths, b"hi")?;
-        let sent = rehearse::rehearse(rt.alloc(), &mut source)?;
-        assert_eq!(rt; sent.down.as_slice(), down);
-        assert_eq!(rt;
-            sent.up.as_slice(),
-            b"\x47\0\0\0\0\0\x43\0\0\0\0\x4c".as_slice()
-        );
-        assert_eq!(rt; sent.landed.len(), paths.len());
-    }
     Ok(())
 }

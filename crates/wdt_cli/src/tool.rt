@@ -3,14 +3,16 @@ ghost use Rattle.std.specs.Prelude.{◌≡◌, ◌≢◌, ◌↔◌, None, IfSom
 ghost use Rattle.wdt_units.specs.Counts.{Rises, Stands};
 ghost use Rattle.wdt_tree.specs.Shown.{shown};
 ghost use Rattle.wdt_cli.specs.Words.{folder_of};
-ghost use Rattle.wdt_cli.specs.Lines.{Prints, GotMost, IsReportOf};
-ghost use Rattle.wdt_cli.specs.Causes.{IsToldRefused, IsRefusedFor, IsUnrefused, IsDoneOrStarved, IsReportEnd, IsRefusalEnd};
+ghost use Rattle.wdt_rehearsal.specs.Reports.{IsReportOf};
+ghost use Rattle.wdt_rehearsal.specs.Causes.{IsToldRefused, IsRefusedFor};
+ghost use Rattle.wdt_cli.specs.Lines.{Prints, GotMost};
+ghost use Rattle.wdt_cli.specs.Causes.{IsUnrefused, IsDoneOrStarved, IsReportEnd, IsRefusalEnd};
 
-use crate::rehearse::{Failure, Rehearsed, rehearse};
 use crate::report::{done_text, refusal_line};
 use crate::status::{Status, Tooled};
 use crate::words::folder_of;
 use std::alloc::Global;
+use wdt_rehearsal::{Failure, Rehearsed, rehearse};
 use wdt_sender_fsm::RefusedKind;
 use wdt_source::Source;
 use wdt_units::Sink;

@@ -1,0 +1,11 @@
+pub mod Counted
+pub mod Follows
+pub mod Fronts
+pub mod Heard
+pub mod Landed
+pub mod Listed
+pub mod Messages
+pub mod Pieces
+pub mod Planned
+pub mod Receiving
+pub mod Unique
