@@ -1,4 +1,4 @@
--- What goes wrong in a depot in memory.
+-- What goes wrong in a depot.
 use Rattle.std.specs.Prelude.{◌≡◌, ◌≢◌, ℕ, ◌-◌, Bool, true, false, List, Option, Some, None}
 use Rattle.wdt_units.specs.Counts.{Rises}
 use Rattle.wdt_depot.specs.State.{Stop, State}

@@ -1,4 +1,4 @@
--- The entered spots of a depot in memory.
+-- The entered spots of a depot.
 use Rattle.std.specs.Prelude.{ℕ, List, Option, is_some, Bool}
 use Rattle.std.specs.List.{list_all}
 use Rattle.wdt_depot.specs.declared.spots.Entered.{Entered}

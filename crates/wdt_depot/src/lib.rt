@@ -39,5 +39,7 @@ mod tests;
 pub use crash::Crash;
 pub use depot::{Depot, MAX_END};
 pub use failure::DepotFail;
+pub use luck::Luck;
 pub use memory::MemDepot;
 pub use reading::read_whole;
+pub use spots::{Entered, drop_spot, path_at, push_spot};

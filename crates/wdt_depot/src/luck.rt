@@ -1,21 +1,24 @@
-// What goes wrong in a depot in memory: a stop, the calls that fail by their numbers, and the counts.
+//! What goes wrong in a depot: a stop, the calls that fail by their numbers, and the counts.
 ghost use Rattle.std.specs.Prelude.{◌≡◌, is_some};
 ghost use Rattle.wdt_depot.specs.Luck.{IsCountedOn, IsFaulted, IsFresh, IsNumbered, IsOwnFault, IsRefused, IsStruck, IsTurn};
 
 use crate::failure::DepotFail;
 
-// A stop: armed, with the calls up to it and its pick, or struck, with its pick. Which changing calls
-// fail, by their numbers from 1, and how many there were. The counts of faults, of own faults now and at
-// the last reopening, and of slips.
+/// A depot's stop and its counts, for an `impl Depot` to keep them by. The counts stop at 2^64 less 1.
 #[derive(Debug, Drop)]
 pub struct Luck {
+    /// The changing calls up to the stop, and its pick.
     pub armed: Option<(u32, u64)>,
+    /// The pick of the stop that has struck.
     pub struck: Option<u64>,
-    pub fails: Vec<u32>,
-    pub calls: u32,
+    // The changing calls that fail, by their numbers from 1, and how many there were.
+    fails: Vec<u32>,
+    calls: u32,
     pub faults: u64,
+    /// The faults that no stop made, and how many they were at the last reopening.
     pub own: u64,
     pub own_then: u64,
+    /// What no caller may ask for, where the disk is told.
     pub slips: u64,
 }
 
@@ -28,7 +31,7 @@ pub enum Turn {
 }
 
 impl Luck {
-    // Nothing is armed, and the calls of these numbers fail.
+    /// No stop, and all counts 0. The changing calls of these numbers fail, from 1.
     pub fn of(fails: Vec<u32>) -> Luck
         ensures { IsFresh result }
     {
@@ -44,14 +47,14 @@ impl Luck {
         }
     }
 
-    // Whether a stop has struck.
+    /// Whether a stop has struck.
     pub fn is_down(&self) -> bool
         ensures { result ≡ is_some self.now.struck }
     {
         self.struck.is_some()
     }
 
-    // A fault of the stop.
+    /// Counts a fault of a stop that has struck.
     pub fn fault(&mut self) -> DepotFail
         ensures failed { result ≡ DepotFail.Failed }
         ensures luck { IsFaulted self.old self.new }
@@ -60,7 +63,7 @@ impl Luck {
         DepotFail::Failed
     }
 
-    // A fault that no stop made, of a call that looks.
+    /// Counts a fault that no stop made, and a slip where it is one. It is no changing call: see `count`.
     pub fn own_fault(&mut self, slips: bool) -> DepotFail
         ensures failed { result ≡ DepotFail.Failed }
         ensures luck { IsOwnFault slips self.old self.new }
@@ -74,7 +77,7 @@ impl Luck {
     }
 
     // Numbers a changing call, and says what becomes of it.
-    pub fn turn(&mut self) -> Turn
+    pub(crate) fn turn(&mut self) -> Turn
         ensures luck { IsNumbered self.old self.new }
         ensures turn { IsTurn self.old.armed result }
     {
@@ -88,7 +91,7 @@ impl Luck {
         Turn::Goes
     }
 
-    // The stop strikes: a fault that isn't an own one.
+    /// The stop strikes, which is a fault but no own one.
     pub fn strike(&mut self, pick: u64) -> DepotFail
         ensures failed { result ≡ DepotFail.Failed }
         ensures luck { IsStruck pick self.old self.new }
@@ -98,7 +101,7 @@ impl Luck {
         self.fault()
     }
 
-    // One changing call less up to the stop.
+    /// Counts a changing call: one less up to the stop. It isn't the last.
     pub fn count(&mut self)
         ensures { IsCountedOn self.old self.new }
     {
@@ -108,7 +111,7 @@ impl Luck {
     }
 
     // The call can't be done: the stop strikes, or else it is an own fault.
-    pub fn refuse(&mut self, turn: Turn, slips: bool) -> DepotFail
+    pub(crate) fn refuse(&mut self, turn: Turn, slips: bool) -> DepotFail
         ensures failed { result ≡ DepotFail.Failed }
         ensures luck { IsRefused turn slips self.old self.new }
     {

@@ -1,4 +1,4 @@
-// The entered spots of a depot in memory.
+//! The entered spots of a depot.
 ghost use Rattle.std.specs.Prelude.{◌≡◌, ℕ, ◌+◌, ◌<◌, ◌++◌, List, [], ◌∷◌, length, map, IfOk, OnErr, IsOkUnless, None, is_some, option_map};
 ghost use Rattle.wdt_depot.specs.Spots.{entered_view};
 ghost use Rattle.wdt_depot.specs.State.{path_of, without};
@@ -6,14 +6,14 @@ ghost use Rattle.wdt_depot.specs.State.{path_of, without};
 use crate::failure::DepotFail;
 use wdt_units::{Name, Spot};
 
-// A spot's number and its path.
+/// An entered spot: its number and its path.
 #[derive(Debug, Drop)]
 pub struct Entered {
     pub number: u16,
     pub path: Name,
 }
 
-// The path of a spot.
+/// The path of a spot, or None where it isn't entered.
 pub fn path_at(spots: &Vec<Entered>, spot: Spot) -> Option<&Name>
     ensures { option_map (λ name. name.now) result ≡ path_of spot.0 (map entered_view spots.now.items) }
 {
@@ -51,7 +51,7 @@ fn free_number(spots: &Vec<Entered>) -> u16
     32
 }
 
-// Enters a path.
+/// Enters a path at a number that no spot has. After want of memory nothing has changed.
 pub fn push_spot(spots: &mut Vec<Entered>, path: &Name) -> Result<Spot, DepotFail>
     requires { length spots.old.items < 32 }
     ensures fresh { IfOk result (λ spot. path_of spot.0 (map entered_view spots.old.items) ≡ None) }
@@ -65,7 +65,7 @@ pub fn push_spot(spots: &mut Vec<Entered>, path: &Name) -> Result<Spot, DepotFai
     Ok(Spot(number))
 }
 
-// Takes a spot out.
+/// Takes a spot out. The others stay as they are.
 pub fn drop_spot(spots: &mut Vec<Entered>, spot: Spot)
     ensures { map entered_view spots.new.items ≡ without spot.0 (map entered_view spots.old.items) }
 {
