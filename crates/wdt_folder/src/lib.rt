@@ -8,10 +8,18 @@
 //! system's reason. Want of memory is no fault and keeps its own answer.
 #![tactic(auto)]
 
+mod depot;
+mod entries;
+mod files;
+mod folder;
+mod handles;
+mod paths;
 mod source;
+mod stops;
 #[cfg(test)]
 mod tests;
 mod trouble;
 
+pub use depot::FolderDepot;
 pub use source::FolderSource;
 pub use trouble::{Fault, OneLine};

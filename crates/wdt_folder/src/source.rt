@@ -5,8 +5,9 @@ ghost use Rattle.std.specs.Prelude.{◌≡◌, None};
 ghost use Rattle.wdt_units.specs.Counts.{Rises};
 ghost use Rattle.wdt_source.specs.declared.failure.SourceFail.TheVariants.{Failed};
 
+use crate::paths::joined;
 use crate::trouble::{Fault, Trouble};
-use std::alloc::{AllocError, Global};
+use std::alloc::Global;
 use std::fs;
 use std::io::{self, ErrorKind};
 use std::os::unix::fs::FileExt;
@@ -197,17 +198,6 @@ where
     ghost told_is_tree = { λ _. tt };
 
     ghost told_is_listed = { λ _. tt };
-}
-
-// A path below a folder.
-fn joined(alloc: Global, folder: &str, name: &str) -> Result<String, AllocError> {
-    if folder.is_empty() {
-        return String::from_str(alloc, name);
-    }
-    if name.is_empty() {
-        return String::from_str(alloc, folder);
-    }
-    format!(in alloc; "{folder}/{name}")
 }
 
 // Nanoseconds since 1970, or 0 where they aren't told.

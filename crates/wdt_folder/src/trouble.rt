@@ -1,9 +1,11 @@
 //! What went wrong outside, in words for a person.
-use std::alloc::{AllocError, AllocFailed};
+use std::alloc::{AllocError, AllocFailed, Global};
 use std::fmt;
 use std::io::{self, ErrorKind};
+use wdt_units::NoMemory;
 
-/// What was being done, to which path, and the system's reason.
+/// What was being done, to which path, and the system's reason. The path is left out where there was no
+/// memory for it.
 #[derive(Debug, Drop)]
 pub struct Fault {
     doing: &'static str,
@@ -11,11 +13,34 @@ pub struct Fault {
     reason: io::Error,
 }
 
+impl Fault {
+    /// The fault of a path in memory of its own.
+    pub fn of(doing: &'static str, path: String, reason: io::Error) -> Fault {
+        Fault {
+            doing,
+            path,
+            reason,
+        }
+    }
+
+    /// The fault of a path that is copied, where there is memory.
+    pub fn at(alloc: Global, doing: &'static str, path: &str, reason: io::Error) -> Fault {
+        let path = match String::from_str(alloc, path) {
+            Ok(path) => path,
+            Err(_) => String::new(alloc),
+        };
+        Fault::of(doing, path, reason)
+    }
+}
+
 impl fmt::Display for Fault {
     fn fmt<W: fmt::Write>(&self, f: &mut fmt::Formatter<W>) -> fmt::Result {
         let doing = self.doing;
         let path = OneLine(self.path.as_str());
         let reason = &self.reason;
+        if self.path.is_empty() {
+            return write!(f, "{doing}: {reason}");
+        }
         write!(f, "{doing} {path}: {reason}")
     }
 }
@@ -50,16 +75,18 @@ impl Trouble {
         if reason.kind() == ErrorKind::OutOfMemory {
             return Trouble::NoMemory;
         }
-        Trouble::Fault(Fault {
-            doing,
-            path,
-            reason,
-        })
+        Trouble::Fault(Fault::of(doing, path, reason))
     }
 }
 
 impl From<AllocError> for Trouble {
     fn from(_: AllocError) -> Trouble {
+        Trouble::NoMemory
+    }
+}
+
+impl From<NoMemory> for Trouble {
+    fn from(_: NoMemory) -> Trouble {
         Trouble::NoMemory
     }
 }

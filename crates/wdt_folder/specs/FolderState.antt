@@ -1,0 +1,10 @@
+-- What contracts see of a folder as a depot.
+use Rattle.std.specs.Prelude.{map}
+use Rattle.wdt_depot.specs.Spots.{entered_view}
+use Rattle.wdt_depot.specs.State.{State}
+use Rattle.wdt_folder.specs.declared.depot.FolderDepot.{FolderDepot}
+use Rattle.wdt_folder.specs.Untold.{untold}
+
+-- its stop, its spots and its counts
+abbrev pub folder_state : {R File Dir : Type 0} → FolderDepot R File Dir → State
+folder_state d = untold d.luck (map entered_view d.spots.items)

@@ -1,0 +1,262 @@
+//! A folder as a depot.
+//!
+//! It tells nothing of what it holds: this is the trusted edge, proved only against the trait.
+ghost use Rattle.std.specs.Prelude.{◌≡◌, map, None, OnOk, OnErr, IfOk, IsErr, IsErrOf, IsSome, false, IsTrue};
+ghost use Rattle.wdt_depot.specs.Spots.{entered_view};
+ghost use Rattle.wdt_depot.specs.State.{Counts, IsCounted, IsKept, OnlyLooks, counted, path_of};
+ghost use Rattle.wdt_folder.specs.Untold.{is_barred, untold};
+
+use crate::folder::Folder;
+use crate::trouble::{Fault, Trouble};
+use std::os::unix::fs::FileExt;
+use std::rt::Files;
+use wdt_depot::{Depot, DepotFail, Entered, Luck, drop_spot, path_at, push_spot};
+use wdt_units::{Failed, Name, Spot};
+
+/// Files below a folder, as a depot. It tells nothing of what it holds.
+///
+/// The folders of a file are made with the file, and the root too. A link, a folder or a pipe at a
+/// file's path is a fault, but `make` removes a link that stands there, and leaves what it leads to.
+/// Folders on the way to a file may be links. A file that was made is found again after a crash once
+/// `.wlog` or `.wlog.new` was synced after it, or any file put in place.
+///
+/// The files that were used last stay open, so nobody else may change the folder meanwhile.
+#[derive(Drop)]
+pub struct FolderDepot<R: Files + AllocGlobal + Clone + Drop> {
+    pub(crate) luck: Luck,
+    pub(crate) spots: Vec<Entered>,
+    pub(crate) folder: Folder<R>,
+    fault: Option<Fault>,
+}
+
+impl<R: Files + AllocGlobal + Clone + Drop> FolderDepot<R>
+where
+    R::File: FileExt,
+{
+    ghost use Rattle.wdt_folder.specs.FolderState.{folder_state};
+    ghost use Rattle.wdt_folder.specs.Untold.{fresh};
+
+    /// A depot of the files below a folder, which need not be there. Nothing is touched yet, and no
+    /// memory is taken.
+    pub fn at(rt: R, root: String) -> FolderDepot<R>
+        ensures { folder_state result ≡ fresh }
+    {
+        let alloc = rt.alloc();
+        FolderDepot {
+            luck: Luck::of(Vec::new(alloc)),
+            spots: Vec::new(alloc),
+            folder: Folder::at(rt, root),
+            fault: None,
+        }
+    }
+
+    /// What went wrong last, but for stops.
+    pub fn fault(&self) -> Option<&Fault> {
+        self.fault.as_ref()
+    }
+
+    // Whether a stop bars a changing call: it has struck, or strikes the call.
+    fn is_barred(&self) -> bool
+        ensures { result ≡ is_barred self.now.luck }
+    {
+        if self.luck.is_down() {
+            return true;
+        }
+        matches!(self.luck.armed, Some((1, _)))
+    }
+
+    // Counts what a stop bars.
+    fn bar(&mut self) -> Result<(), DepotFail>
+        requires { IsTrue (is_barred self.old.luck) }
+        ensures failed { result ≡ Err DepotFail.Failed }
+        ensures memory { IsKept result (untold self.old.luck (map entered_view self.old.spots.items)) (untold self.new.luck (map entered_view self.new.spots.items)) }
+        ensures stop { IsCounted result (untold self.old.luck (map entered_view self.old.spots.items)) (untold self.new.luck (map entered_view self.new.spots.items)) }
+        ensures spots { map entered_view self.new.spots.items ≡ map entered_view self.old.spots.items }
+        ensures counts { Counts (IsErrOf result DepotFail.Failed) (untold self.old.luck (map entered_view self.old.spots.items)) (untold self.new.luck (map entered_view self.new.spots.items)) }
+    {
+        if let Some(_) = self.luck.struck {
+            return Err(self.luck.fault());
+        }
+        match self.luck.armed {
+            Some((_, pick)) => Err(self.luck.strike(pick)),
+            None => Err(self.luck.fault()),
+        }
+    }
+
+    // Counts a changing call by how it went.
+    fn settle(&mut self, done: Result<(), Trouble>) -> Result<(), DepotFail>
+        requires { is_barred self.old.luck ≡ false }
+        ensures failed { IsErr done → IsErr result }
+        ensures memory { IsKept result (untold self.old.luck (map entered_view self.old.spots.items)) (untold self.new.luck (map entered_view self.new.spots.items)) }
+        ensures stop { IsCounted result (untold self.old.luck (map entered_view self.old.spots.items)) (untold self.new.luck (map entered_view self.new.spots.items)) }
+        ensures up { OnOk result (self.new.luck.struck ≡ None) }
+        ensures spots { map entered_view self.new.spots.items ≡ map entered_view self.old.spots.items }
+        ensures counts { Counts (IsErrOf result DepotFail.Failed) (untold self.old.luck (map entered_view self.old.spots.items)) (untold self.new.luck (map entered_view self.new.spots.items)) }
+    {
+        match done {
+            Ok(()) => {
+                self.luck.count();
+                Ok(())
+            }
+            Err(Trouble::NoMemory) => Err(DepotFail::NoMemory),
+            Err(Trouble::Fault(fault)) => {
+                self.fault = Some(fault);
+                self.luck.count();
+                Err(self.luck.own_fault(false))
+            }
+        }
+    }
+
+    // A call that looks, behind a stop that has struck.
+    fn down<T>(&mut self) -> Result<T, DepotFail>
+        requires { IsSome self.old.luck.struck }
+        ensures failed { result ≡ Err DepotFail.Failed }
+        ensures looks { OnlyLooks (untold self.old.luck (map entered_view self.old.spots.items)) (untold self.new.luck (map entered_view self.new.spots.items)) }
+        ensures memory { IsKept result (untold self.old.luck (map entered_view self.old.spots.items)) (untold self.new.luck (map entered_view self.new.spots.items)) }
+        ensures spots { map entered_view self.new.spots.items ≡ map entered_view self.old.spots.items }
+        ensures counts { Counts (IsErrOf result DepotFail.Failed) (untold self.old.luck (map entered_view self.old.spots.items)) (untold self.new.luck (map entered_view self.new.spots.items)) }
+    {
+        Err(self.luck.fault())
+    }
+
+    // A call that looked and found trouble.
+    fn miss<T>(&mut self, trouble: Trouble) -> Result<T, DepotFail>
+        requires { self.old.luck.struck ≡ None }
+        ensures failed { IsErr result }
+        ensures looks { OnlyLooks (untold self.old.luck (map entered_view self.old.spots.items)) (untold self.new.luck (map entered_view self.new.spots.items)) }
+        ensures memory { IsKept result (untold self.old.luck (map entered_view self.old.spots.items)) (untold self.new.luck (map entered_view self.new.spots.items)) }
+        ensures spots { map entered_view self.new.spots.items ≡ map entered_view self.old.spots.items }
+        ensures counts { Counts (IsErrOf result DepotFail.Failed) (untold self.old.luck (map entered_view self.old.spots.items)) (untold self.new.luck (map entered_view self.new.spots.items)) }
+    {
+        match trouble {
+            Trouble::NoMemory => Err(DepotFail::NoMemory),
+            Trouble::Fault(fault) => {
+                self.fault = Some(fault);
+                Err(self.luck.own_fault(false))
+            }
+        }
+    }
+}
+
+// The path of an entered spot.
+fn path_in(spots: &Vec<Entered>, spot: Spot) -> &Name
+    requires { IsSome (path_of spot.0 (map entered_view spots.now.items)) }
+{
+    match path_at(spots, spot) {
+        Some(path) => path,
+        None => unreachable!(),
+    }
+}
+
+impl<R: Files + AllocGlobal + Clone + Drop> Depot for FolderDepot<R>
+where
+    R::File: FileExt,
+{
+    ghost use Rattle.wdt_folder.specs.FolderState.{folder_state};
+
+    ghost state = { λ d. folder_state d };
+
+    fn make(&mut self, path: &Name) -> Result<(), DepotFail> {
+        if self.is_barred() {
+            return self.bar();
+        }
+        let done = self.folder.make(path, &self.spots);
+        self.settle(done)
+    }
+
+    fn enter(&mut self, path: &Name) -> Result<Option<Spot>, DepotFail> {
+        if self.luck.is_down() {
+            return self.down();
+        }
+        match self.folder.look(path, &self.spots) {
+            Ok(None) => Ok(None),
+            Ok(Some(_)) => match push_spot(&mut self.spots, path) {
+                Ok(spot) => Ok(Some(spot)),
+                Err(_) => Err(DepotFail::NoMemory),
+            },
+            Err(trouble) => self.miss(trouble),
+        }
+    }
+
+    fn need(&mut self, path: &Name) -> Result<Spot, DepotFail> {
+        if self.luck.is_down() {
+            return self.down();
+        }
+        match self.folder.open(path, &self.spots) {
+            Ok(_) => match push_spot(&mut self.spots, path) {
+                Ok(spot) => Ok(spot),
+                Err(_) => Err(DepotFail::NoMemory),
+            },
+            Err(trouble) => self.miss(trouble),
+        }
+    }
+
+    fn leave(&mut self, spot: Spot) {
+        drop_spot(&mut self.spots, spot);
+    }
+
+    fn length(&mut self, spot: Spot) -> Result<u64, DepotFail> {
+        if self.luck.is_down() {
+            return self.down();
+        }
+        let path = path_in(&self.spots, spot);
+        match self.folder.length(path, &self.spots) {
+            Ok(length) => Ok(length),
+            Err(trouble) => self.miss(trouble),
+        }
+    }
+
+    fn read_at(&mut self, spot: Spot, offset: u64, into: &mut [u8]) -> Result<usize, DepotFail> {
+        if self.luck.is_down() {
+            return self.down();
+        }
+        let path = path_in(&self.spots, spot);
+        match self.folder.read_at(path, &self.spots, offset, into) {
+            Ok(count) => Ok(count),
+            Err(trouble) => self.miss(trouble),
+        }
+    }
+
+    fn write_at(&mut self, spot: Spot, offset: u64, bytes: &[u8]) -> Result<(), DepotFail> {
+        if self.is_barred() {
+            return self.bar();
+        }
+        let path = path_in(&self.spots, spot);
+        let done = self.folder.write_at(path, &self.spots, offset, bytes);
+        self.settle(done)
+    }
+
+    fn sync(&mut self, spot: Spot) -> Result<(), Failed> {
+        if self.is_barred() {
+            return match self.bar() {
+                Ok(()) => Ok(()),
+                Err(_) => Err(Failed),
+            };
+        }
+        let path = path_in(&self.spots, spot);
+        match self.folder.sync(path) {
+            Ok(()) => {
+                self.luck.count();
+                Ok(())
+            }
+            Err(fault) => {
+                self.fault = Some(fault);
+                self.luck.count();
+                let _ = self.luck.own_fault(false);
+                Err(Failed)
+            }
+        }
+    }
+
+    fn put_in_place(&mut self, from: &Name, to: &Name) -> Result<(), DepotFail> {
+        if self.is_barred() {
+            return self.bar();
+        }
+        let done = self.folder.put_in_place(from, to);
+        self.settle(done)
+    }
+
+    ghost sound = { λ _. tt };
+
+    ghost spots_stand = { λ _. tt };
+}

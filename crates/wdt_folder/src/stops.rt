@@ -1,0 +1,32 @@
+//! The stops of a folder. A call that a stop bars is passed on to nothing.
+ghost use Rattle.wdt_depot.specs.Picks.{picked_disk};
+ghost use Rattle.wdt_depot.specs.PickLaws.{picks_image};
+
+use crate::depot::FolderDepot;
+use std::os::unix::fs::FileExt;
+use std::rt::Files;
+use wdt_depot::Crash;
+
+impl<R: Files + AllocGlobal + Clone + Drop> Crash for FolderDepot<R>
+where
+    R::File: FileExt,
+{
+    ghost picked = { λ d pick. picked_disk d pick };
+
+    fn arm(&mut self, calls: u32, pick: u64) {
+        self.luck.armed = Some((calls, pick));
+    }
+
+    fn struck(&self) -> bool {
+        self.luck.struck.is_some()
+    }
+
+    fn reopen(&mut self) {
+        self.folder.close_all();
+        self.luck.struck = None;
+        self.luck.own_then = self.luck.own;
+        self.spots.clear();
+    }
+
+    ghost picks_image = { λ d pick. picks_image d pick };
+}
