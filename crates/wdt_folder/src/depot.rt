@@ -69,12 +69,12 @@ where
     fn bar(&mut self) -> Result<(), DepotFail>
         requires { IsTrue (is_barred self.old.luck) }
         ensures failed { result ≡ Err DepotFail.Failed }
-        ensures memory { IsKept result (untold self.old.luck (map entered_view self.old.spots.items)) (untold self.new.luck (map entered_view self.new.spots.items)) }
-        ensures stop { IsCounted result (untold self.old.luck (map entered_view self.old.spots.items)) (untold self.new.luck (map entered_view self.new.spots.items)) }
-        ensures spots { map entered_view self.new.spots.items ≡ map entered_view self.old.spots.items }
-        ensures counts { Counts (IsErrOf result DepotFail.Failed) (untold self.old.luck (map entered_view self.old.spots.items)) (untold self.new.luck (map entered_view self.new.spots.items)) }
+        ensures memory { IsKept result (folder_state self.old) (folder_state self.new) }
+        ensures stop { IsCounted result (folder_state self.old) (folder_state self.new) }
+        ensures spots { (folder_state self.new).spots ≡ (folder_state self.old).spots }
+        ensures counts { Counts (IsErrOf result DepotFail.Failed) (folder_state self.old) (folder_state self.new) }
     {
-        if let Some(_) = self.luck.struck {
+        if self.luck.is_down() {
             return Err(self.luck.fault());
         }
         match self.luck.armed {
@@ -87,11 +87,11 @@ where
     fn settle(&mut self, done: Result<(), Trouble>) -> Result<(), DepotFail>
         requires { is_barred self.old.luck ≡ false }
         ensures failed { IsErr done → IsErr result }
-        ensures memory { IsKept result (untold self.old.luck (map entered_view self.old.spots.items)) (untold self.new.luck (map entered_view self.new.spots.items)) }
-        ensures stop { IsCounted result (untold self.old.luck (map entered_view self.old.spots.items)) (untold self.new.luck (map entered_view self.new.spots.items)) }
+        ensures memory { IsKept result (folder_state self.old) (folder_state self.new) }
+        ensures stop { IsCounted result (folder_state self.old) (folder_state self.new) }
         ensures up { OnOk result (self.new.luck.struck ≡ None) }
-        ensures spots { map entered_view self.new.spots.items ≡ map entered_view self.old.spots.items }
-        ensures counts { Counts (IsErrOf result DepotFail.Failed) (untold self.old.luck (map entered_view self.old.spots.items)) (untold self.new.luck (map entered_view self.new.spots.items)) }
+        ensures spots { (folder_state self.new).spots ≡ (folder_state self.old).spots }
+        ensures counts { Counts (IsErrOf result DepotFail.Failed) (folder_state self.old) (folder_state self.new) }
     {
         match done {
             Ok(()) => {
@@ -111,10 +111,10 @@ where
     fn down<T>(&mut self) -> Result<T, DepotFail>
         requires { IsSome self.old.luck.struck }
         ensures failed { result ≡ Err DepotFail.Failed }
-        ensures looks { OnlyLooks (untold self.old.luck (map entered_view self.old.spots.items)) (untold self.new.luck (map entered_view self.new.spots.items)) }
-        ensures memory { IsKept result (untold self.old.luck (map entered_view self.old.spots.items)) (untold self.new.luck (map entered_view self.new.spots.items)) }
-        ensures spots { map entered_view self.new.spots.items ≡ map entered_view self.old.spots.items }
-        ensures counts { Counts (IsErrOf result DepotFail.Failed) (untold self.old.luck (map entered_view self.old.spots.items)) (untold self.new.luck (map entered_view self.new.spots.items)) }
+        ensures looks { OnlyLooks (folder_state self.old) (folder_state self.new) }
+        ensures memory { IsKept result (folder_state self.old) (folder_state self.new) }
+        ensures spots { (folder_state self.new).spots ≡ (folder_state self.old).spots }
+        ensures counts { Counts (IsErrOf result DepotFail.Failed) (folder_state self.old) (folder_state self.new) }
     {
         Err(self.luck.fault())
     }
@@ -123,10 +123,10 @@ where
     fn miss<T>(&mut self, trouble: Trouble) -> Result<T, DepotFail>
         requires { self.old.luck.struck ≡ None }
         ensures failed { IsErr result }
-        ensures looks { OnlyLooks (untold self.old.luck (map entered_view self.old.spots.items)) (untold self.new.luck (map entered_view self.new.spots.items)) }
-        ensures memory { IsKept result (untold self.old.luck (map entered_view self.old.spots.items)) (untold self.new.luck (map entered_view self.new.spots.items)) }
-        ensures spots { map entered_view self.new.spots.items ≡ map entered_view self.old.spots.items }
-        ensures counts { Counts (IsErrOf result DepotFail.Failed) (untold self.old.luck (map entered_view self.old.spots.items)) (untold self.new.luck (map entered_view self.new.spots.items)) }
+        ensures looks { OnlyLooks (folder_state self.old) (folder_state self.new) }
+        ensures memory { IsKept result (folder_state self.old) (folder_state self.new) }
+        ensures spots { (folder_state self.new).spots ≡ (folder_state self.old).spots }
+        ensures counts { Counts (IsErrOf result DepotFail.Failed) (folder_state self.old) (folder_state self.new) }
     {
         match trouble {
             Trouble::NoMemory => Err(DepotFail::NoMemory),

@@ -36,17 +36,21 @@ impl Entries {
         }
     }
 
-    // Whether a folder is known to be there.
-    pub fn is_known(&self, folder: &str) -> bool {
+    fn standing(&self, folder: &str) -> Standing {
         match self.folders.get(folder) {
-            Some(standing) => *standing != Standing::Unknown,
-            None => false,
+            Some(standing) => *standing,
+            None => Standing::Unknown,
         }
     }
 
-    // Adds the folders that get new entries by a new file to the way, and makes room to list the whole
-    // way. They are the file's own folder, and where that isn't known, each from there to the root: an
-    // earlier run may have made it, and gone down before it was stable.
+    // Whether a folder is known to be there.
+    pub fn is_known(&self, folder: &str) -> bool {
+        self.standing(folder) != Standing::Unknown
+    }
+
+    // Adds the folders that a new file gives new entries to the way, and makes room to list the whole way.
+    // They are the file's own folder, and where that isn't known, each from there to the root: an earlier
+    // run may have made it, and gone down before its entry was stable.
     pub fn prepare(
         &mut self,
         alloc: Global,
@@ -55,6 +59,9 @@ impl Entries {
         way: &mut Vec<String>,
     ) -> Result<(), Trouble> {
         let mut folder = folder_of(full);
+        if self.standing(folder) == Standing::Fresh {
+            return Ok(());
+        }
         let is_known = self.is_known(folder);
         for _ in 0..full.len() {
             way.push(String::from_str(alloc, folder)?)?;

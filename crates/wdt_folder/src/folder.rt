@@ -4,7 +4,7 @@ ghost use Rattle.std.specs.Prelude.{◌<◌, ◌≤◌, ◌+◌, ◌^◌, length
 use crate::entries::Entries;
 use crate::files::{is_there, made, opened, read_on};
 use crate::handles::Handles;
-use crate::paths::{folder_of, joined, trimmed};
+use crate::paths::{folder_of, joined, shown, trimmed};
 use crate::trouble::{Fault, Trouble};
 use std::alloc::AllocError;
 use std::fs::{self, OpenFile};
@@ -41,12 +41,8 @@ where
         joined(self.rt.alloc(), trimmed(self.root.as_str()), path.text())
     }
 
-    // The path for a fault's text, or an empty one where there is no memory for it.
     fn shown(&self, path: &Name) -> String {
-        match self.full(path) {
-            Ok(full) => full,
-            Err(_) => String::new(self.rt.alloc()),
-        }
+        shown(self.rt.alloc(), trimmed(self.root.as_str()), path.text())
     }
 
     fn trouble(&self, doing: &'static str, path: &Name, reason: io::Error) -> Trouble {
@@ -95,9 +91,9 @@ where
         let full = joined(alloc, root, path.text())?;
         let name = path.copy()?;
         self.handles.make_room(spots)?;
+        self.entries.look_above(&self.rt, alloc, root)?;
         let mut way = Vec::new(alloc);
         self.entries.prepare(alloc, root, full.as_str(), &mut way)?;
-        self.entries.look_above(&self.rt, alloc, root)?;
         let file = match self.make_folder_of(full.as_str()) {
             Ok(()) => made(&self.rt, full.as_str()),
             Err(reason) => Err(reason),

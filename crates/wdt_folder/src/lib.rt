@@ -1,14 +1,18 @@
 //! Real folders.
 //!
-//! `FolderSource` lists the regular files of a folder and reads them. It tells nothing of what it
-//! holds, so nothing is proved of that: it is proved to keep the trait of a source, which says that a
-//! call fails only where the count of faults rose, and is the trusted edge.
+//! `FolderSource` lists the regular files of a folder and reads them. `FolderDepot` makes, writes and
+//! syncs files below a folder, and can be stopped at any changing call, from which on it makes no call
+//! of the system. Both are the trusted edge: they tell nothing of what they hold, so nothing is proved
+//! of that. They are proved to keep their traits: a call fails only where the count of faults rose, and
+//! a stop strikes the call that it was armed for.
 //!
 //! What went wrong is kept in words for a person: what was being done, to which path, and the
 //! system's reason. Want of memory is no fault and keeps its own answer.
 #![tactic(auto)]
 
 mod depot;
+#[cfg(test)]
+mod depot_tests;
 mod entries;
 mod files;
 mod folder;

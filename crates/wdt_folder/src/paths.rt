@@ -12,6 +12,14 @@ pub fn joined(alloc: Global, folder: &str, name: &str) -> Result<String, AllocEr
     format!(in alloc; "{folder}/{name}")
 }
 
+// The same for a fault's text: an empty one where there is no memory for it.
+pub fn shown(alloc: Global, folder: &str, name: &str) -> String {
+    match joined(alloc, folder, name) {
+        Ok(path) => path,
+        Err(_) => String::new(alloc),
+    }
+}
+
 // The folder that a path is in.
 pub fn folder_of(path: &str) -> &str {
     match path.rsplit_once('/') {

@@ -5,7 +5,7 @@ ghost use Rattle.std.specs.Prelude.{◌≡◌, None};
 ghost use Rattle.wdt_units.specs.Counts.{Rises};
 ghost use Rattle.wdt_source.specs.declared.failure.SourceFail.TheVariants.{Failed};
 
-use crate::paths::joined;
+use crate::paths::{joined, shown};
 use crate::trouble::{Fault, Trouble};
 use std::alloc::Global;
 use std::fs;
@@ -118,23 +118,22 @@ impl<R: Files + AllocGlobal + Clone + Drop> FolderSource<R> {
         R::File: FileExt,
         ensures faults { self.new.faults ≡ self.old.faults }
     {
-        let alloc = *self.root.allocator();
-        let full = joined(alloc, self.root.as_str(), path.text())?;
-        let read = match self.open(path, full.as_str()) {
-            Ok(()) => match &self.opened {
-                Some(opened) => opened.file.read_exact_at(into, offset),
-                None => Err(io::Error::from(ErrorKind::NotFound)),
-            },
-            Err(error) => Err(error),
+        self.open(path)?;
+        let read = match &self.opened {
+            Some(opened) => opened.file.read_exact_at(into, offset),
+            None => Err(io::Error::from(ErrorKind::NotFound)),
         };
         match read {
             Ok(()) => Ok(()),
-            Err(reason) => Err(Trouble::of("reading", full, reason)),
+            Err(reason) => {
+                let full = shown(*self.root.allocator(), self.root.as_str(), path.text());
+                Err(Trouble::of("reading", full, reason))
+            }
         }
     }
 
     // Has the file at a path open.
-    fn open(&mut self, path: &Name, full: &str) -> io::Result<()>
+    fn open(&mut self, path: &Name) -> Result<(), Trouble>
         ensures faults { self.new.faults ≡ self.old.faults }
     {
         if let Some(opened) = &self.opened {
@@ -142,12 +141,15 @@ impl<R: Files + AllocGlobal + Clone + Drop> FolderSource<R> {
                 return Ok(());
             }
         }
-        let Ok(path) = path.copy() else {
-            return Err(io::Error::from(ErrorKind::OutOfMemory));
-        };
-        let file = fs::open(&self.rt, full)?;
-        self.opened = Some(Opened { path, file });
-        Ok(())
+        let full = joined(*self.root.allocator(), self.root.as_str(), path.text())?;
+        let path = path.copy()?;
+        match fs::open(&self.rt, full.as_str()) {
+            Ok(file) => {
+                self.opened = Some(Opened { path, file });
+                Ok(())
+            }
+            Err(reason) => Err(Trouble::of("reading", full, reason)),
+        }
     }
 
     fn fail(&mut self, fault: Fault) -> SourceFail

@@ -1,5 +1,6 @@
 //! What no clause says: what a real folder is seen as.
 use crate::FolderSource;
+use crate::paths::{folder_of, trimmed};
 use std::env::temp_dir;
 use std::fs;
 use std::test::Fail;
@@ -57,4 +58,20 @@ fn a_folder_is_listed_and_read(rt: HostRuntime) -> Result<(), Fail> {
     assert!(rt; source.fault().is_some());
     fs::remove_dir_all(&rt, root.as_str())?;
     Ok(())
+}
+
+#[test]
+fn folders_of_paths(rt: HostRuntime) {
+    for (path, folder) in [("a", "."), ("/a", "/"), ("x/y/a", "x/y"), ("./a", ".")] {
+        assert_eq!(rt; folder_of(path), folder);
+    }
+    for (root, own) in [
+        ("", "."),
+        ("/", "/"),
+        ("//", "/"),
+        ("x/", "x"),
+        ("x/y", "x/y"),
+    ] {
+        assert_eq!(rt; trimmed(root), own);
+    }
 }

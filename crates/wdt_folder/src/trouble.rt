@@ -14,8 +14,7 @@ pub struct Fault {
 }
 
 impl Fault {
-    /// The fault of a path in memory of its own.
-    pub fn of(doing: &'static str, path: String, reason: io::Error) -> Fault {
+    pub(crate) fn of(doing: &'static str, path: String, reason: io::Error) -> Fault {
         Fault {
             doing,
             path,
@@ -23,8 +22,8 @@ impl Fault {
         }
     }
 
-    /// The fault of a path that is copied, where there is memory.
-    pub fn at(alloc: Global, doing: &'static str, path: &str, reason: io::Error) -> Fault {
+    // The fault of a path that is copied, where there is memory.
+    pub(crate) fn at(alloc: Global, doing: &'static str, path: &str, reason: io::Error) -> Fault {
         let path = match String::from_str(alloc, path) {
             Ok(path) => path,
             Err(_) => String::new(alloc),
