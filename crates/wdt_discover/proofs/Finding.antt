@@ -2,32 +2,20 @@
 use Rattle.std.proofs.Common.{◌≡◌, ℕ, zero, suc, ◌<◌, Bool, true, false, cond, List, [], ◌∷◌, length, slice_get, Some, None, refl, sym, ap, ◌∙◌, inl, inr, subst}
 use Rattle.std.specs.List.{list_all, list_any, find}
 use Rattle.std.specs.Option.{option_map}
-use Rattle.std.specs.Ordering.{is_lt, is_eq, nat_cmp}
-use Rattle.std.specs.declared.cmp.Ordering.{Ordering}
-use Rattle.std.specs.declared.cmp.Ordering.TheVariants.{Less, Equal, Greater}
-use Rattle.std.specs.Cmp.Lexicographic.{slice_cmp}
 use Rattle.std.specs.Str.{bytes_eq}
 use Rattle.std.proofs.lemmas.Bool.{and_parts, or_parts, cases_lt}
-use Rattle.std.proofs.lemmas.Map.Text.{is_eq-slice_cmp}
 use Rattle.std.proofs.lemmas.Option.{slice_get_past, none-some, same_Some}
 use Rattle.std.proofs.lemmas.Slice.Eq.{bytes_eq-Decides}
 use Rattle.wdt_tree.specs.declared.entry.Entry.{Entry}
 use Rattle.wdt_tree.specs.Listing.{path_of, has_path, is_below_entry, is_in_order}
-use Rattle.wdt_discover.specs.Plan.{size_and_stamp, found_in}
+use Rattle.wdt_rest.proofs.Whole.{before_differs}
+use Rattle.wdt_rest.specs.Fitting.{size_and_stamp, found_in}
 
 pub within : (entries : List Entry) (path : List ℕ) (at : ℕ) → option_map path_of (slice_get entries at) ≡ Some path → at < length entries
 within entries path at h = elim (cases_lt at (length entries)) [
   | inl lt ↦ lt
   | inr past ↦ absurd (none-some path (sym (ap (option_map path_of) (slice_get_past entries at past)) ∙ h))
 ]
-
-lt_differs : (o : Ordering) → is_lt o ≡ true → is_eq o ≡ false
-lt_differs Less h = refl
-lt_differs Equal h = cc
-lt_differs Greater h = refl
-
-pub before_differs : (a b : List ℕ) → is_lt (slice_cmp nat_cmp a b) ≡ true → bytes_eq a b ≡ false
-before_differs a b h = sym (is_eq-slice_cmp a b) ∙ lt_differs (slice_cmp nat_cmp a b) h
 
 all_at : (p : Entry → Bool) (xs : List Entry) (k : ℕ) (x : Entry) → list_all p xs ≡ true → slice_get xs k ≡ Some x → p x ≡ true
 all_at p [] k x all at = cc

@@ -8,7 +8,8 @@ use Rattle.wdt_tree.specs.declared.entry.Entry.{Entry}
 use Rattle.wdt_ranges.specs.declared.have.FileHave.{FileHave}
 use Rattle.wdt_ranges.specs.Files.{have_file}
 use Rattle.wdt_rest.specs.RestOf.{has_set}
-use Rattle.wdt_discover.specs.Plan.{fits, stale_of, first_stale}
+use Rattle.wdt_rest.specs.Fitting.{fits}
+use Rattle.wdt_discover.specs.Plan.{stale_of, first_stale}
 use Rattle.wdt_discover.proofs.Counting.{drop_here}
 
 pub record IsFit (entries : List Entry) (files : List FileHave) (i : ℕ) : Type 0 where

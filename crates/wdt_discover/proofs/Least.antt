@@ -16,7 +16,8 @@ use Rattle.wdt_ranges.specs.Files.{is_before_file, is_in_order}
 use Rattle.wdt_rest.specs.RestOf.{rest_of}
 use Rattle.wdt_discover.specs.declared.fail.PlanFail.TheVariants.{Stale, TooManyBlocks}
 use Rattle.wdt_discover.specs.Least.{IsLeastStale}
-use Rattle.wdt_discover.specs.Plan.{found_in, fits, stale_of, refusal_after, refusal}
+use Rattle.wdt_rest.specs.Fitting.{found_in, fits}
+use Rattle.wdt_discover.specs.Plan.{stale_of, refusal_after, refusal}
 
 -- a file is the first that doesn't fit, and the least
 record IsLeast (entries : List Entry) (have : List HaveFile) (file : HaveFile) : Type 0 where

@@ -15,7 +15,7 @@ use Rattle.wdt_units.specs.Have.{HaveFile, is_named}
 use Rattle.wdt_ranges.specs.declared.have.FileHave.{FileHave}
 use Rattle.wdt_ranges.specs.Files.{have_file, is_before_file, is_in_order}
 use Rattle.wdt_rest.specs.RestOf.{spans_of}
-use Rattle.wdt_discover.proofs.Finding.{before_differs}
+use Rattle.wdt_rest.proofs.Whole.{before_differs}
 
 abbrev pub path_of : FileHave → List ℕ
 path_of file = file.path

@@ -3,7 +3,7 @@ use Rattle.std.specs.Prelude.{◌≡◌, ◌⊎◌, ℕ, true, false, List, slic
 use Rattle.wdt_units.specs.Have.{HaveFile}
 use Rattle.wdt_units.specs.Tree.{is_before}
 use Rattle.wdt_tree.specs.declared.entry.Entry.{Entry}
-use Rattle.wdt_discover.specs.Plan.{found_in, fits}
+use Rattle.wdt_rest.specs.Fitting.{found_in, fits}
 
 -- a file of the have doesn't fit, each other that doesn't has a later path, and this is said of it
 pub record IsLeastStale (entries : List Entry) (have : List HaveFile) (path : List ℕ) (logged : ℕ × ℕ) (found : Option (ℕ × ℕ)) : Type 0 where

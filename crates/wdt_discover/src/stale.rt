@@ -2,9 +2,10 @@
 ghost use Rattle.std.specs.Prelude.{◌≡◌, ◌≢◌, true, None, Some, not, map, IfErr, OnOk, IsTrue};
 ghost use Rattle.std.specs.List.{list_all};
 ghost use Rattle.wdt_ranges.specs.Files.{have_file};
+ghost use Rattle.wdt_rest.specs.Fitting.{found_in, has_found, fits};
 ghost use Rattle.wdt_rest.specs.RestOf.{has_set};
 ghost use Rattle.wdt_discover.specs.declared.fail.PlanFail.TheVariants.{NoMemory as OutOfMemory};
-ghost use Rattle.wdt_discover.specs.Plan.{found_in, has_found, fits, stale_of, first_stale};
+ghost use Rattle.wdt_discover.specs.Plan.{stale_of, first_stale};
 
 use crate::fail::PlanFail;
 use wdt_ranges::FileHave;

@@ -93,7 +93,7 @@ apart_earlier n m (s ∷ ss) le h =
     let low : n ≤ s.offset = leb-true n s.offset inner.0 in
     and_from (nat_le m s.offset && is_span s) (are_apart_from (end_of s + 1) ss) (and_from (nat_le m s.offset) (is_span s) (le-leb m s.offset (omega arith)) inner.1) outer.1
 
-both_false : (x y : Bool) → x ≡ false → y ≡ false → (x || y) ≡ false
+pub both_false : (x y : Bool) → x ≡ false → y ≡ false → (x || y) ≡ false
 both_false true y a b = a
 both_false false y a b = b
 

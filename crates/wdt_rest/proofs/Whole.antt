@@ -21,7 +21,7 @@ use Rattle.wdt_ranges.specs.Spans.{has, are_apart}
 use Rattle.wdt_ranges.specs.Files.{is_before_file, is_in_order}
 use Rattle.wdt_rest.specs.RestOf.{IsHave, has_set, spans_of, gap_pieces, gaps_in, is_new_empty, empty_block, file_rest, rest_from, rest_of}
 use Rattle.wdt_rest.proofs.Pieces.{Lies, is_cut_in, AllCut, IsPart, rising_append}
-use Rattle.wdt_rest.proofs.Gaps.{IsWider, wider_left, wider_right, cuts_wider, count_join, gaps_part}
+use Rattle.wdt_rest.proofs.Gaps.{both_false, IsWider, wider_left, wider_right, cuts_wider, count_join, gaps_part}
 
 -- ---- what a have says of a path
 
@@ -30,6 +30,9 @@ lt_differs Less h = refl
 lt_differs Equal h = cc
 lt_differs Greater h = refl
 
+pub before_differs : (a b : List ℕ) → is_lt (slice_cmp nat_cmp a b) ≡ true → bytes_eq a b ≡ false
+before_differs a b h = sym (is_eq-slice_cmp a b) ∙ lt_differs (slice_cmp nat_cmp a b) h
+
 -- a path behind another is no path that equals it
 behind_differs : (a b path : List ℕ) → is_lt (slice_cmp nat_cmp a b) ≡ true → bytes_eq a path ≡ true → bytes_eq b path ≡ false
 behind_differs a b path lt here = false_from_ne_true (bytes_eq b path)
@@ -37,12 +40,8 @@ behind_differs a b path lt here = false_from_ne_true (bytes_eq b path)
     let one : a ≡ path = (bytes_eq-Decides a path).0 here in
     let two : b ≡ path = (bytes_eq-Decides b path).0 e in
     let same : bytes_eq a b ≡ true = (bytes_eq-Decides a b).1 (one ∙ sym two) in
-    let other : bytes_eq a b ≡ false = sym (is_eq-slice_cmp a b) ∙ lt_differs (slice_cmp nat_cmp a b) lt in
+    let other : bytes_eq a b ≡ false = before_differs a b lt in
     cc)
-
-both_false : (x y : Bool) → x ≡ false → y ≡ false → (x || y) ≡ false
-both_false true y a b = a
-both_false false y a b = b
 
 later_lacks : (file : HaveFile) (files : List HaveFile) (path : List ℕ) (position : ℕ) → list_all (is_before_file file) files ≡ true → bytes_eq file.path path ≡ true → is_covered files path position ≡ false
 later_lacks file [] path position up here = refl
