@@ -23,7 +23,7 @@ last_or_before n l within = go (cases_eq l n) where
   go (inl e) = inl e
   go (inr ne) = inr (grind (arith, within, ne))
 
-tabulate_at : {X : Type 0} (n : ℕ) (f : ℕ → X) (l : ℕ) (d : X) → l < n → get_or (tabulate n f) l d ≡ f l
+pub tabulate_at : {X : Type 0} (n : ℕ) (f : ℕ → X) (l : ℕ) (d : X) → l < n → get_or (tabulate n f) l d ≡ f l
 tabulate_at zero f l d within = absurd (omega (arith, within))
 tabulate_at {X} (suc n) f l d within = go (last_or_before n l within) (tabulate_at n f l d) where
   go : (l ≡ n) ⊎ (l < n) → (l < n → get_or (tabulate n f) l d ≡ f l) → get_or (tabulate n f ++ f n ∷ []) l d ≡ f l
@@ -32,12 +32,12 @@ tabulate_at {X} (suc n) f l d within = go (last_or_before n l within) (tabulate_
       (subst (λ (j : ℕ). get_or (tabulate n f ++ f n ∷ []) j d ≡ f n) (tabulate_length n f) (get_or-append_seam (tabulate n f) (f n) [] d))
   go (inr lt) rest = get_or_append_left (tabulate n f) (f n ∷ []) d l (omega (arith, tabulate_length n f, lt)) ∙ rest lt
 
-tabulate_same : {X : Type 0} (n : ℕ) (f g : ℕ → X) → ((l : ℕ) → l < n → g l ≡ f l) → tabulate n g ≡ tabulate n f
+pub tabulate_same : {X : Type 0} (n : ℕ) (f g : ℕ → X) → ((l : ℕ) → l < n → g l ≡ f l) → tabulate n g ≡ tabulate n f
 tabulate_same zero f g same = refl
 tabulate_same (suc n) f g same = rw (tabulate_same n f g (λ l lt. same l (omega (arith, lt))), same n (omega arith)) refl
 
 -- one of them is another
-tabulate_set : {X : Type 0} (n k : ℕ) (f g : ℕ → X) → k < n → ((l : ℕ) → l ≢ k → g l ≡ f l) → tabulate n g ≡ set (tabulate n f) k (g k)
+pub tabulate_set : {X : Type 0} (n k : ℕ) (f g : ℕ → X) → k < n → ((l : ℕ) → l ≢ k → g l ≡ f l) → tabulate n g ≡ set (tabulate n f) k (g k)
 tabulate_set zero k f g within same = absurd (omega (arith, within))
 tabulate_set {X} (suc n) k f g within same = go (last_or_before n k within) (λ lt. tabulate_set n k f g lt same) where
   go : (k ≡ n) ⊎ (k < n) → (k < n → tabulate n g ≡ set (tabulate n f) k (g k)) → tabulate n g ++ g n ∷ [] ≡ set (tabulate n f ++ f n ∷ []) k (g k)
@@ -53,7 +53,7 @@ tabulate_map : {X Y : Type 0} (m : X → Y) (n : ℕ) (f : ℕ → X) → tabula
 tabulate_map m zero f = refl
 tabulate_map m (suc n) f = ap (λ xs. xs ++ m (f n) ∷ []) (tabulate_map m n f) ∙ sym (map-append m (tabulate n f) (f n ∷ []))
 
-tabulate_one : {X : Type 0} (n : ℕ) (x : X) → tabulate n (λ l. x) ≡ replicate n x
+pub tabulate_one : {X : Type 0} (n : ℕ) (x : X) → tabulate n (λ l. x) ≡ replicate n x
 tabulate_one zero x = refl
 tabulate_one (suc n) x = ap (λ xs. xs ++ x ∷ []) (tabulate_one n x) ∙ (replicate-append-replicate n 1 x ∙ ap (λ k. replicate k x) (more n)) where
   more : (m : ℕ) → m + 1 ≡ suc m
@@ -64,7 +64,7 @@ tabulate_one (suc n) x = ap (λ xs. xs ++ x ∷ []) (tabulate_one n x) ∙ (repl
 abbrev at : List SendEvent → ℕ → Claims
 at h l = (past_of h l).claims
 
-at_more : (h : List SendEvent) (e : SendEvent) (l : ℕ) → at (h ++ e ∷ []) l ≡ claims_after l (at h l) e
+pub at_more : (h : List SendEvent) (e : SendEvent) (l : ℕ) → at (h ++ e ∷ []) l ≡ claims_after l (at h l) e
 at_more h e l = ap (λ p. p.claims) (past_of-more h e l)
 
 pub claims_length : (n : ℕ) (h : List SendEvent) → length (claims_of n h) ≡ n
@@ -83,7 +83,7 @@ if_not : {X : Type 0} (k l : ℕ) (x y : X) → l ≢ k → (if k == l then x el
 if_not k l x y other = rw (ne_eqb k l (λ e. other (sym e))) refl
 
 -- an entry that changes one lane's claims
-claims_one : (n : ℕ) (h : List SendEvent) (e : SendEvent) (k : ℕ) (make : Claims → Claims) → k < n → ((l : ℕ) (s : Claims) → claims_after l s e ≡ (if k == l then make s else s)) → claims_of n (h ++ e ∷ []) ≡ set (claims_of n h) k (make (at h k))
+pub claims_one : (n : ℕ) (h : List SendEvent) (e : SendEvent) (k : ℕ) (make : Claims → Claims) → k < n → ((l : ℕ) (s : Claims) → claims_after l s e ≡ (if k == l then make s else s)) → claims_of n (h ++ e ∷ []) ≡ set (claims_of n h) k (make (at h k))
 claims_one n h e k make within is =
     tabulate_set n k (at h) (at (h ++ e ∷ [])) within (λ l other. at_more h e l ∙ (is l (at h l) ∙ if_not k l (make (at h l)) (at h l) other))
     ∙ ap (λ s. set (claims_of n h) k s) (at_more h e k ∙ (is k (at h k) ∙ if_yes k (make (at h k)) (at h k)))

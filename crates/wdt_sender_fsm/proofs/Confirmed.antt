@@ -3,25 +3,25 @@ use Rattle.std.proofs.Common.{◌≡◌, ℕ, zero, suc, ◌≤◌, ◌||◌, Li
 use Rattle.std.specs.List.{list_any}
 use Rattle.std.proofs.lemmas.Bool.{or_left, or_right}
 use Rattle.std.proofs.lemmas.List.Folds.{list_any-append}
+use Rattle.wdt_units.specs.Blocks.{is_same}
 use Rattle.wdt_units.specs.LaneWords.{Claims, claimed, sent, cut_to}
 use Rattle.wdt_units.specs.declared.blocks.Block.{Block}
+use Rattle.wdt_history.specs.Places.{is_among, keeps, confirms, holds, is_queued, place_of}
+use Rattle.wdt_history.specs.declared.place.Place.TheVariants.{Queued, Held, Unconfirmed, Confirmed}
 use Rattle.wdt_sender_fsm.specs.declared.events.SendEvent.{SendEvent}
 use Rattle.wdt_sender_fsm.specs.declared.events.SendEvent.TheVariants.{Linked, NoLink, Lost, Greet, Chunks, Claim, Sent, Done, Global, Finish, Acked, Quit, Abort, Peer}
 use Rattle.wdt_sender_fsm.specs.Legal.{IsAllowed, Tells, TellsBy}
-use Rattle.wdt_sender_fsm.specs.Places.{tabulate, claims_of, is_same_block, is_among, keeps, confirms, holds, is_queued, place, Queued, Held, Unconfirmed, Confirmed}
+use Rattle.wdt_sender_fsm.specs.Places.{tabulate, claims_of}
 use Rattle.wdt_sender_fsm.specs.SenderHistory.{past_of, past_of-more, close_by, claims_after}
-use Rattle.wdt_sender_fsm.proofs.Histories.{if_same}
+use Rattle.wdt_sender_fsm.proofs.Histories.{false_true, if_same}
 
 -- ---- among the first of a list
-
-false_true : {X : Type 0} → false ≡ true → X
-false_true e = cc
 
 among_take : (b : Block) (n m : ℕ) (xs : List Block) → n ≤ m → is_among (take n xs) b ≡ true → is_among (take m xs) b ≡ true
 among_take b zero m xs below among = false_true among
 among_take b (suc n) m [] below among = false_true among
 among_take b (suc n) zero (x ∷ xs) below among = grind arith
-among_take b (suc n) (suc m) (x ∷ xs) below among = go (among_take b n m xs (omega (arith, below))) (is_same_block b x) among where
+among_take b (suc n) (suc m) (x ∷ xs) below among = go (among_take b n m xs (omega (arith, below))) (is_same b x) among where
   go : (is_among (take n xs) b ≡ true → is_among (take m xs) b ≡ true) → (same : Bool) → (same || is_among (take n xs) b) ≡ true → (same || is_among (take m xs) b) ≡ true
   go f true e = refl
   go f false e = f e
@@ -31,7 +31,7 @@ among_cut : (b : Block) (n m : ℕ) (xs : List Block) → n ≤ m → is_among (
 among_cut b zero m xs below among = false_true among
 among_cut b (suc n) m [] below among = false_true among
 among_cut b (suc n) zero (x ∷ xs) below among = grind arith
-among_cut b (suc n) (suc m) (x ∷ xs) below among = go (among_cut b n m xs (omega (arith, below))) (is_same_block b x) among where
+among_cut b (suc n) (suc m) (x ∷ xs) below among = go (among_cut b n m xs (omega (arith, below))) (is_same b x) among where
   go : (is_among (take n xs) b ≡ true → is_among (take m (take m xs)) b ≡ true) → (same : Bool) → (same || is_among (take n xs) b) ≡ true → (same || is_among (take m (take m xs)) b) ≡ true
   go f true e = refl
   go f false e = f e
@@ -40,7 +40,7 @@ among_cut b (suc n) (suc m) (x ∷ xs) below among = go (among_cut b n m xs (ome
 among_longer : (b : Block) (n : ℕ) (xs ys : List Block) → is_among (take n xs) b ≡ true → is_among (take n (xs ++ ys)) b ≡ true
 among_longer b zero xs ys among = false_true among
 among_longer b (suc n) [] ys among = false_true among
-among_longer b (suc n) (x ∷ xs) ys among = go (among_longer b n xs ys) (is_same_block b x) among where
+among_longer b (suc n) (x ∷ xs) ys among = go (among_longer b n xs ys) (is_same b x) among where
   go : (is_among (take n xs) b ≡ true → is_among (take n (xs ++ ys)) b ≡ true) → (same : Bool) → (same || is_among (take n xs) b) ≡ true → (same || is_among (take n (xs ++ ys)) b) ≡ true
   go f true e = refl
   go f false e = f e
@@ -48,7 +48,7 @@ among_longer b (suc n) (x ∷ xs) ys among = go (among_longer b n xs ys) (is_sam
 among_whole : (b : Block) (n : ℕ) (xs : List Block) → is_among (take n xs) b ≡ true → is_among (take (length xs) xs) b ≡ true
 among_whole b zero xs among = false_true among
 among_whole b (suc n) [] among = false_true among
-among_whole b (suc n) (x ∷ xs) among = go (among_whole b n xs) (is_same_block b x) among where
+among_whole b (suc n) (x ∷ xs) among = go (among_whole b n xs) (is_same b x) among where
   go : (is_among (take n xs) b ≡ true → is_among (take (length xs) xs) b ≡ true) → (same : Bool) → (same || is_among (take n xs) b) ≡ true → (same || is_among (take (length xs) xs) b) ≡ true
   go f true e = refl
   go f false e = f e
@@ -56,7 +56,7 @@ among_whole b (suc n) (x ∷ xs) among = go (among_whole b n xs) (is_same_block 
 among_all : (b : Block) (n : ℕ) (xs : List Block) → is_among (take n xs) b ≡ true → is_among xs b ≡ true
 among_all b zero xs among = false_true among
 among_all b (suc n) [] among = false_true among
-among_all b (suc n) (x ∷ xs) among = go (among_all b n xs) (is_same_block b x) among where
+among_all b (suc n) (x ∷ xs) among = go (among_all b n xs) (is_same b x) among where
   go : (is_among (take n xs) b ≡ true → is_among xs b ≡ true) → (same : Bool) → (same || is_among (take n xs) b) ≡ true → (same || is_among xs b) ≡ true
   go f true e = refl
   go f false e = f e
@@ -122,10 +122,10 @@ any_more p q (x ∷ xs) f is = go (p x) (f x) (any_more p q xs f) is where
   go false i j e = or_right _ _ (j e)
 
 -- a block is confirmed exactly where it is among those of a lane that have surely landed
-pub confirmed_by : (lanes : List Claims) (b : Block) → list_any (confirms b) lanes ≡ true → place lanes b ≡ Confirmed
+pub confirmed_by : (lanes : List Claims) (b : Block) → list_any (confirms b) lanes ≡ true → place_of b lanes ≡ Confirmed
 confirmed_by lanes b is = rw (any_more (confirms b) (keeps b) lanes (λ s. among_all b s.sure s.kept) is, is) refl
 
-confirms_by : (lanes : List Claims) (b : Block) → place lanes b ≡ Confirmed → list_any (confirms b) lanes ≡ true
+confirms_by : (lanes : List Claims) (b : Block) → place_of b lanes ≡ Confirmed → list_any (confirms b) lanes ≡ true
 confirms_by lanes b = go (is_queued lanes b) (list_any (confirms b) lanes) (list_any (holds b) lanes) where
   go : (q c h : Bool) → (if q then Queued else if c then Confirmed else if h then Held else Unconfirmed) ≡ Confirmed → c ≡ true
   go q true h e = refl
@@ -134,6 +134,6 @@ confirms_by lanes b = go (is_queued lanes b) (list_any (confirms b) lanes) (list
   go false false false e = cc
 
 -- a confirmed block stays confirmed
-pub stays_confirmed : (n : ℕ) (planned : List Block) (h : List SendEvent) (e : SendEvent) (b : Block) → IsAllowed n planned h e → place (claims_of n h) b ≡ Confirmed → place (claims_of n (h ++ e ∷ [])) b ≡ Confirmed
+pub stays_confirmed : (n : ℕ) (planned : List Block) (h : List SendEvent) (e : SendEvent) (b : Block) → IsAllowed n planned h e → place_of b (claims_of n h) ≡ Confirmed → place_of b (claims_of n (h ++ e ∷ [])) ≡ Confirmed
 stays_confirmed n planned h e b allowed is =
     confirmed_by (claims_of n (h ++ e ∷ [])) b (any_same (confirms b) n _ _ (λ l. lane_confirms n planned h e l b allowed) (confirms_by (claims_of n h) b is))

@@ -1,83 +1,62 @@
--- How often a block stands in the queue and in the lanes' lists: as often as in the plan.
-use Rattle.std.proofs.Common.{◌≡◌, ◌≢◌, ◌⊎◌, ℕ, zero, suc, ◌+◌, ◌≤◌, ◌||◌, List, [], ◌∷◌, ◌++◌, take, Bool, true, false, cond, subst, sym, arith, refl, inl, inr, eq-eqb}
+-- How often a block stands in lists that are filtered, and sums over lanes.
+use Rattle.std.proofs.Common.{◌≡◌, ◌≢◌, ◌⊎◌, ℕ, zero, suc, ◌+◌, ◌≤◌, List, [], ◌∷◌, filter, Bool, true, false, subst, sym, ap, ◌∙◌, arith, refl, inl, inr}
 use Rattle.std.specs.List.{list_all}
-use Rattle.std.proofs.lemmas.Bool.{cases_eq, and_parts, or_parts}
+use Rattle.std.proofs.lemmas.Bool.{cases_eq, and_from, and_parts, false≢true}
+use Rattle.std.proofs.lemmas.Bool.Decides.{nat_tests}
 use Rattle.wdt_units.specs.declared.blocks.Block.{Block}
+use Rattle.wdt_units.specs.Blocks.{precedes, are_rising, is_same, count_of}
+use Rattle.wdt_units.proofs.BlockCounts.{count_of-nil, count_of-cons, one_if-false}
+use Rattle.wdt_units.proofs.BlockOrder.{one_block}
 use Rattle.wdt_tree.specs.Rest.{is_earlier, is_rising}
-use Rattle.std.proofs.lemmas.List.Recursion.{is_count_by}
-use Rattle.wdt_sender_fsm.specs.Places.{is_same_block, is_among, count_of}
+use Rattle.wdt_history.specs.Places.{is_among}
+use Rattle.wdt_history.proofs.Found.{not_among}
 
--- ---- counts of lists
+-- a block of a list is counted
+pub present : (b : Block) (xs : List Block) → is_among xs b ≡ true → 1 ≤ count_of b xs
+present b xs among = elim (cases_eq (count_of b xs) 0) [ inl none ↦ absurd (false≢true (sym (not_among b xs none) ∙ among)) | inr some ↦ omega (arith, some) ]
 
-abbrev pub one_if : Bool → ℕ
-one_if true = 1
-one_if false = 0
+-- ---- blocks that pass a test
 
--- how often a block stands in a list, by its first blocks
-abbrev pub tally : Block → List Block → ℕ
-tally b [] = 0
-tally b (a ∷ blocks) = one_if (is_same_block b a) + tally b blocks
+other_if : (p : Block → Bool) (b x : Block) (t : Bool) → (p b ≡ p x → ⊥) → is_same b x ≡ t → is_same b x ≡ false
+other_if p b x true differ same = absurd (differ (ap p (one_block b x same)))
+other_if p b x false differ same = same
 
-pub tally_is : (b : Block) (xs : List Block) → tally b xs ≡ count_of b xs
-tally_is b xs = is_count_by (tally b) (is_same_block b) refl (λ x ys. go (is_same_block b x) (tally b ys)) xs where
-  go : (same : Bool) (n : ℕ) → one_if same + n ≡ cond same (1 + n) n
-  go true n = refl
-  go false n = omega arith
+kept_go : (p : Block → Bool) (b x : Block) (xs : List Block) (t : Bool) → p b ≡ true → count_of b (filter p xs) ≡ count_of b xs → p x ≡ t → count_of b (filter p (x ∷ xs)) ≡ count_of b (x ∷ xs)
+kept_go p b x xs true has rest e = rw e (omega (arith, count_of-cons b x (filter p xs), count_of-cons b x xs, rest))
+kept_go p b x xs false has rest e =
+    rw e (omega (arith, count_of-cons b x xs, rest, one_if-false b x (other_if p b x (is_same b x) (λ same. false≢true (sym e ∙ sym same ∙ has)) refl)))
 
-pub count_append : (b : Block) (xs ys : List Block) → tally b (xs ++ ys) ≡ tally b xs + tally b ys
-count_append b [] ys = omega arith
-count_append b (x ∷ xs) ys = omega (arith, count_append b xs ys)
+-- a block that passes stands as often among those that do
+pub kept_count : (p : Block → Bool) (b : Block) (xs : List Block) → p b ≡ true → count_of b (filter p xs) ≡ count_of b xs
+kept_count p b [] has = refl
+kept_count p b (x ∷ xs) has = kept_go p b x xs (p x) has (kept_count p b xs has) refl
 
-pub count_take : (b : Block) (n : ℕ) (xs : List Block) → tally b (take n xs) ≤ tally b xs
-count_take b zero xs = omega arith
-count_take b (suc n) [] = omega arith
-count_take b (suc n) (x ∷ xs) = omega (arith, count_take b n xs)
+dropped_go : (p : Block → Bool) (b x : Block) (xs : List Block) (t : Bool) → p b ≡ false → count_of b (filter p xs) ≡ 0 → p x ≡ t → count_of b (filter p (x ∷ xs)) ≡ 0
+dropped_go p b x xs false not_it rest e = rw e rest
+dropped_go p b x xs true not_it rest e =
+    rw e (omega (arith, count_of-cons b x (filter p xs), rest, one_if-false b x (other_if p b x (is_same b x) (λ same. false≢true (sym not_it ∙ same ∙ e)) refl)))
 
-pub count_none : (b : Block) (xs : List Block) → is_among xs b ≡ false → tally b xs ≡ 0
-count_none b [] none = refl
-count_none b (x ∷ xs) none =
-    let parts = or_parts (is_same_block b x) (is_among xs b) none in
-    let rest = count_none b xs parts.1 in
-    rw (parts.0) (omega (arith, rest))
+-- and one that doesn't isn't among them
+pub dropped_count : (p : Block → Bool) (b : Block) (xs : List Block) → p b ≡ false → count_of b (filter p xs) ≡ 0
+dropped_count p b [] not_it = count_of-nil b
+dropped_count p b (x ∷ xs) not_it = dropped_go p b x xs (p x) not_it (dropped_count p b xs not_it) refl
 
-pub count_some : (b : Block) (xs : List Block) → is_among xs b ≡ true → 1 ≤ tally b xs
-count_some b [] among = cc
-count_some b (x ∷ xs) among = go (is_same_block b x) (count_some b xs) among where
-  go : (same : Bool) → (is_among xs b ≡ true → 1 ≤ tally b xs) → (same || is_among xs b) ≡ true → 1 ≤ one_if same + tally b xs
-  go true f e = omega arith
-  go false f e = omega (arith, f e)
+-- ---- what rises in the order of the plan rises in that of blocks
 
--- ---- blocks that are the same
+earlier_precedes : (a b : Block) → is_earlier a b ≡ true → precedes a b ≡ true
+earlier_precedes a b e = grind (arith, nat_tests)
 
-pub same_parts : (a b : Block) → is_same_block a b ≡ true → (a.file ≡ b.file) × (a.offset ≡ b.offset) × (a.length ≡ b.length)
-same_parts a b same = grind arith
+all_precede : (a : Block) (xs : List Block) → list_all (is_earlier a) xs ≡ true → list_all (precedes a) xs ≡ true
+all_precede a [] e = refl
+all_precede a (x ∷ xs) e =
+    let parts = and_parts (is_earlier a x) (list_all (is_earlier a) xs) e in
+    and_from (precedes a x) (list_all (precedes a) xs) (earlier_precedes a x parts.0) (all_precede a xs parts.1)
 
-pub same_block : (a b : Block) → is_same_block a b ≡ true → a ≡ b
-same_block a b same = let parts = same_parts a b same in rw (parts.0, parts.1, parts.2) refl
-
-pub same_self : (a : Block) → is_same_block a a ≡ true
-same_self a = rw (eq-eqb a.file a.file refl, eq-eqb a.offset a.offset refl, eq-eqb a.length a.length refl) refl
-
--- ---- a rising list has each block once
-
-earlier_apart : (a b : Block) → is_earlier a b ≡ true → is_same_block a b ≡ false
-earlier_apart a b before = grind arith
-
-later_none : (a b : Block) (xs : List Block) → is_same_block b a ≡ true → list_all (is_earlier a) xs ≡ true → is_among xs b ≡ false
-later_none a b [] same all = refl
-later_none a b (x ∷ xs) same all =
-    let parts = and_parts (is_earlier a x) (list_all (is_earlier a) xs) all in
-    let apart : is_same_block b x ≡ false = subst (λ (c : Block). is_same_block c x ≡ false) (sym (same_block b a same)) (earlier_apart a x parts.0) in
-    rw (apart) (later_none a b xs same parts.1)
-
-pub rising_once : (b : Block) (xs : List Block) → is_rising xs ≡ true → tally b xs ≤ 1
-rising_once b [] rising = omega arith
-rising_once b (x ∷ xs) rising =
-    let parts = and_parts (list_all (is_earlier x) xs) (is_rising xs) rising in
-    go (is_same_block b x) refl (rising_once b xs parts.1) parts.0 where
-      go : (same : Bool) → is_same_block b x ≡ same → tally b xs ≤ 1 → list_all (is_earlier x) xs ≡ true → one_if same + tally b xs ≤ 1
-      go true is once all = omega (arith, count_none b xs (later_none x b xs is all))
-      go false is once all = omega (arith, once)
+pub plan_rises : (xs : List Block) → is_rising xs ≡ true → are_rising xs ≡ true
+plan_rises [] e = refl
+plan_rises (x ∷ xs) e =
+    let parts = and_parts (list_all (is_earlier x) xs) (is_rising xs) e in
+    and_from (list_all (precedes x) xs) (are_rising xs) (all_precede x xs parts.0) (plan_rises xs parts.1)
 
 -- ---- sums over the lanes below n
 

@@ -11,7 +11,8 @@ use Rattle.wdt_sender_fsm.specs.declared.events.SendEvent.TheVariants as events
 use Rattle.wdt_sender_fsm.specs.declared.peers.PeerKind.TheVariants as peers
 use Rattle.wdt_sender_fsm.specs.declared.states.SendState.{SendState}
 use Rattle.wdt_sender_fsm.specs.declared.states.SendState.TheVariants as states
-use Rattle.wdt_sender_fsm.specs.Places.{tabulate, claims_of, is_holding, holding, queued}
+use Rattle.wdt_history.specs.Claimed.{is_held}
+use Rattle.wdt_sender_fsm.specs.Places.{tabulate, claims_of, holding, queued}
 use Rattle.wdt_sender_fsm.specs.PlainSender.{PlainSender, lane_at, state_at, past_at, blocks_of, unfinished_blocks, noted, goes}
 use Rattle.wdt_sender_fsm.specs.Rows.{Row, DoneAtOnce}
 use Rattle.wdt_sender_fsm.specs.Sender.{Fares, FaresAt, Asks, Answers, failure_in-more}
@@ -29,16 +30,16 @@ is_empty [] e = refl
 is_empty (x ∷ xs) e = absurd (omega (arith, e))
 
 abbrev one_if : Claims → ℕ
-one_if c = cond (is_holding c) 1 0
+one_if c = cond (is_held c) 1 0
 
-counted : (n : ℕ) (f : ℕ → Claims) → count_by is_holding (tabulate (suc n) f) ≡ count_by is_holding (tabulate n f) + one_if (f n)
-counted n f = sum_by-append one_if (tabulate n f) (f n ∷ []) ∙ ap (λ (c : ℕ). count_by is_holding (tabulate n f) + c) (sum_by-cons one_if (f n) [] ∙ omega arith)
+counted : (n : ℕ) (f : ℕ → Claims) → count_by is_held (tabulate (suc n) f) ≡ count_by is_held (tabulate n f) + one_if (f n)
+counted n f = sum_by-append one_if (tabulate n f) (f n ∷ []) ∙ ap (λ (c : ℕ). count_by is_held (tabulate n f) + c) (sum_by-cons one_if (f n) [] ∙ omega arith)
 
 not_held : (b : Bool) → cond {A = ℕ} b 1 0 ≡ 0 → b ≡ false
 not_held true e = absurd (omega (arith, e))
 not_held false e = refl
 
-pub none_held : (n : ℕ) (f : ℕ → Claims) → count_by is_holding (tabulate n f) ≡ 0 → (j : ℕ) → j < n → (f j).held ≡ false
+pub none_held : (n : ℕ) (f : ℕ → Claims) → count_by is_held (tabulate n f) ≡ 0 → (j : ℕ) → j < n → (f j).held ≡ false
 none_held zero f none j within = absurd (omega (arith, within))
 none_held (suc n) f none j within = go (none_held n f (omega (arith, none, counted n f)) j) (cases_lt j n) where
   go : (j < n → (f j).held ≡ false) → (j < n) ⊎ (n ≤ j) → (f j).held ≡ false

@@ -16,6 +16,16 @@ kept_from : (n : ℕ) (planned : List Block) (Has : List SendEvent → Type 0) �
 kept_from n planned Has step b [] has legal = subst Has (sym (append-nil b)) has
 kept_from n planned Has step b (e ∷ es) has legal = subst Has (append_assoc b (e ∷ []) es) (kept_from n planned Has step (b ++ e ∷ []) es (step b e has legal.0) legal.1)
 
+-- what stands behind the first entries of a legal history is legal behind them
+behind : (n : ℕ) (planned : List Block) (b h es : List SendEvent) → legal_from n planned b (h ++ es) → legal_from n planned (b ++ h) es
+behind n planned b [] es legal = subst (λ (x : List SendEvent). legal_from n planned x es) (sym (append-nil b)) legal
+behind n planned b (e ∷ h) es legal = subst (λ (x : List SendEvent). legal_from n planned x es) (append_assoc b (e ∷ []) h) (behind n planned (b ++ e ∷ []) h es legal.1)
+
+-- what each entry that is allowed keeps is kept by the later entries of a legal history
+pub kept_on : (n : ℕ) (planned : List Block) (Has : List SendEvent → Type 0) → ((b : List SendEvent) (e : SendEvent) → Has b → IsAllowed n planned b e → Has (b ++ e ∷ [])) → (h es : List SendEvent) → Has h → IsLegal n planned (h ++ es) → Has (h ++ es)
+unfolding IsLegal
+kept_on n planned Has step h es has legal = kept_from n planned Has step h es has (behind n planned [] h es legal)
+
 -- what holds at first, and is kept by each entry that is allowed, holds of a legal history
 pub of_legal : (n : ℕ) (planned : List Block) (Has : List SendEvent → Type 0) → Has [] → ((b : List SendEvent) (e : SendEvent) → Has b → IsAllowed n planned b e → Has (b ++ e ∷ [])) → (h : List SendEvent) → IsLegal n planned h → Has h
 unfolding IsLegal
@@ -37,8 +47,8 @@ record IsSoundClaims (s : Claims) : Type 0 where
   pub held : s.held ≡ true → s.sure < length s.kept
   pub closed : (n : ℕ) → s.closed ≡ Some n → (n ≡ s.sure) × (n ≡ length s.kept)
 
-not_held : {X : Type 0} → false ≡ true → X
-not_held e = cc
+pub false_true : {X : Type 0} → false ≡ true → X
+false_true e = cc
 
 not_closed : {X : Type 0} (o : Option ℕ) (n : ℕ) → o ≡ None → o ≡ Some n → X
 not_closed o n e f = cc
@@ -46,7 +56,7 @@ not_closed o n e f = cc
 cut_sound : (s : Claims) (n : ℕ) → s.closed ≡ None → n ≤ length s.kept → IsSoundClaims (cut_to n 0 s)
 cut_sound s n open_is within =
     let long : length (take n s.kept) ≡ n = length-take-le n s.kept within in
-    record { sure = omega (arith, long); held = λ h. not_held h; closed = λ m c. not_closed s.closed m open_is c }
+    record { sure = omega (arith, long); held = λ h. false_true h; closed = λ m c. not_closed s.closed m open_is c }
 
 claimed_sound : (s : Claims) (b : Block) → s.closed ≡ None → IsSoundClaims s → IsSoundClaims (claimed b s)
 claimed_sound s b open_is sound =
@@ -56,17 +66,17 @@ claimed_sound s b open_is sound =
 closed_sound : (s : Claims) (n : ℕ) → n ≤ length s.kept → IsSoundClaims (closed_at n 0 s)
 closed_sound s n within =
     let long : length (take n s.kept) ≡ n = length-take-le n s.kept within in
-    record { sure = omega (arith, long); held = λ h. not_held h; closed = λ m c. (sym (same_Some n m c), sym (same_Some n m c) ∙ sym long) }
+    record { sure = omega (arith, long); held = λ h. false_true h; closed = λ m c. (sym (same_Some n m c), sym (same_Some n m c) ∙ sym long) }
 
 close_sound : (o : Option ℕ) (s : Claims) (n : ℕ) → TellsBy o s n → IsSoundClaims s → IsSoundClaims (close_by o n s)
 close_sound None s n tells sound = closed_sound s n tells.1
 close_sound (Some m) s n tells sound = sound
 
 finished_sound : (s : Claims) → IsSoundClaims s → IsSoundClaims (finished s)
-finished_sound s sound = record { sure = omega arith; held = λ h. not_held h; closed = λ m c. ((sound.closed m c).1, (sound.closed m c).1) }
+finished_sound s sound = record { sure = omega arith; held = λ h. false_true h; closed = λ m c. ((sound.closed m c).1, (sound.closed m c).1) }
 
 sent_sound : (s : Claims) → IsSoundClaims s → IsSoundClaims (sent s)
-sent_sound s sound = record { sure = sound.sure; held = λ h. not_held h; closed = sound.closed }
+sent_sound s sound = record { sure = sound.sure; held = λ h. false_true h; closed = sound.closed }
 
 abbrev ClaimsAfter : ℕ → List SendEvent → SendEvent → Type 0
 ClaimsAfter l b e = IsSoundClaims (claims_after l (past_of b l).claims e)
@@ -116,7 +126,7 @@ tries_few n planned b _ l few is = few
 none_sound : (l : ℕ) → IsSound (past_of [] l)
 none_sound l = subst IsSound (sym (past_of-none l)) record {
   sure = omega arith;
-  held = λ h. not_held h;
+  held = λ h. false_true h;
   closed = λ n c. not_closed None n refl c;
   connections = omega arith;
   failed_tries = omega arith;

@@ -3,16 +3,21 @@ use Rattle.std.proofs.Common.{◌≡◌, ℕ, zero, suc, ◌<◌, ◌||◌, not,
 use Rattle.std.specs.List.{list_any}
 use Rattle.std.proofs.Math.Seq.{take-length}
 use Rattle.std.proofs.lemmas.Bool.{or_left, or_right}
+use Rattle.wdt_units.specs.Blocks.{is_same}
 use Rattle.wdt_units.specs.LaneWords.{Claims, sent, cut_to, closed_at}
 use Rattle.wdt_units.specs.declared.blocks.Block.{Block}
+use Rattle.wdt_units.proofs.BlockOrder.{one_block}
+use Rattle.wdt_history.specs.Places.{is_among, keeps, confirms, is_queued, place_of}
+use Rattle.wdt_history.specs.declared.place.Place.TheVariants.{Confirmed}
 use Rattle.wdt_sender_fsm.specs.declared.events.SendEvent.{SendEvent}
 use Rattle.wdt_sender_fsm.specs.declared.events.SendEvent.TheVariants.{Linked, NoLink, Lost, Greet, Chunks, Claim, Sent, Done, Global, Finish, Acked, Quit, Abort, Peer}
 use Rattle.wdt_sender_fsm.specs.Legal.{IsAllowed, IsLegal, IsWithin, Tells, TellsBy}
-use Rattle.wdt_sender_fsm.specs.Places.{tabulate, claims_of, planned_now-is, is_among, keeps, confirms, is_queued, queue_of, is_same_block, queued, least_of, place, Confirmed}
-use Rattle.wdt_sender_fsm.specs.SenderHistory.{past_of, past_of-more, end_of, end_of-more, end_of-none, close_by, claims_after}
+use Rattle.wdt_sender_fsm.specs.Places.{tabulate, claims_of, planned_now-is, queue_of, queued, least_of}
+use Rattle.wdt_sender_fsm.specs.SenderHistory.{past_of, end_of, end_of-more, end_of-none, close_by, claims_after}
+use Rattle.wdt_sender_fsm.proofs.Claimed.{at_more}
 use Rattle.wdt_sender_fsm.proofs.Confirmed.{any_last, confirmed_by}
-use Rattle.wdt_sender_fsm.proofs.Counts.{same_block}
-use Rattle.wdt_sender_fsm.proofs.Histories.{of_legal, if_same}
+use Rattle.wdt_sender_fsm.proofs.Histories.{false_true, of_legal, if_same}
+use Rattle.wdt_sender_fsm.proofs.Placed.{not_not}
 
 -- ---- the queue hangs on the lists alone
 
@@ -83,13 +88,10 @@ record HasLanded (n : ℕ) (planned : List Block) (h : List SendEvent) : Type 0 
   pub none : queued n planned h ≡ []
   pub sure : (l : ℕ) → (at h l).sure ≡ length (at h l).kept
 
-after_is : (h : List SendEvent) (e : SendEvent) (l : ℕ) → at (h ++ e ∷ []) l ≡ claims_after l (at h l) e
-after_is h e l = ap (λ x. x.claims) (past_of-more h e l)
-
 landed_with : (n : ℕ) (planned : List Block) (h : List SendEvent) (e : SendEvent) → queued n planned h ≡ [] → ((l : ℕ) → Keeps (at h l) (claims_after l (at h l) e)) → HasLanded n planned (h ++ e ∷ [])
 landed_with n planned h e none keep = record {
-  none = queued_same n planned h (h ++ e ∷ []) (λ l lt. ap (λ s. s.kept) (after_is h e l) ∙ (keep l).same) ∙ none;
-  sure = λ l. subst (λ (s : Claims). s.sure ≡ length s.kept) (sym (after_is h e l)) (keep l).sure;
+  none = queued_same n planned h (h ++ e ∷ []) (λ l lt. ap (λ s. s.kept) (at_more h e l) ∙ (keep l).same) ∙ none;
+  sure = λ l. subst (λ (s : Claims). s.sure ≡ length s.kept) (sym (at_more h e l)) (keep l).sure;
 }
 
 finish_landed : (n : ℕ) (planned : List Block) (h : List SendEvent) (e : SendEvent) → IsAllowed n planned h e → (end_of (h ++ e ∷ [])).has_finish ≡ true → ((end_of h).has_finish ≡ true → HasLanded n planned h) → HasLanded n planned (h ++ e ∷ [])
@@ -100,9 +102,6 @@ finish_landed n planned h e allowed is before =
 
 abbrev Lands : ℕ → List Block → List SendEvent → Type 0
 Lands n planned h = (end_of h).has_finish ≡ true → HasLanded n planned h
-
-false_true : {X : Type 0} → false ≡ true → X
-false_true e = cc
 
 legal_lands : (n : ℕ) (planned : List Block) (h : List SendEvent) → IsLegal n planned h → Lands n planned h
 legal_lands n planned h legal =
@@ -118,17 +117,13 @@ cons_nil y ys e = cc
 stopped : (p : Block → Bool) (xs : List Block) (b : Block) → filter p xs ≡ [] → is_among xs b ≡ true → p b ≡ false
 stopped p [] b none among = false_true among
 stopped p (x ∷ xs) b none among = go (p x) refl none (stopped p xs b) where
-  here : (same : Bool) → is_same_block b x ≡ same → p x ≡ false → (is_among xs b ≡ true → p b ≡ false) → (same || is_among xs b) ≡ true → p b ≡ false
-  here true e out f a = subst (λ (y : Block). p y ≡ false) (sym (same_block b x e)) out
+  here : (same : Bool) → is_same b x ≡ same → p x ≡ false → (is_among xs b ≡ true → p b ≡ false) → (same || is_among xs b) ≡ true → p b ≡ false
+  here true e out f a = subst (λ (y : Block). p y ≡ false) (sym (one_block b x e)) out
   here false e out f a = f a
 
   go : (q : Bool) → p x ≡ q → cond q (x ∷ filter p xs) (filter p xs) ≡ [] → (filter p xs ≡ [] → is_among xs b ≡ true → p b ≡ false) → p b ≡ false
   go true e nil f = cons_nil x (filter p xs) nil
-  go false e nil f = here (is_same_block b x) refl e (f nil) among
-
-not_not : (a : Bool) → not a ≡ false → a ≡ true
-not_not true e = refl
-not_not false e = cc
+  go false e nil f = here (is_same b x) refl e (f nil) among
 
 -- a block in a list whose blocks have all landed has
 any_confirms : (b : Block) (n : ℕ) (f : ℕ → Claims) → ((l : ℕ) → (f l).sure ≡ length (f l).kept) → list_any (keeps b) (tabulate n f) ≡ true → list_any (confirms b) (tabulate n f) ≡ true
@@ -144,7 +139,7 @@ any_confirms b (suc n) f sure some =
       go false i false j e = false_true e
 
 -- once a lane read the receiver's last word, each block of the plan is confirmed
-pub all_confirmed : (n : ℕ) (planned : List Block) (h : List SendEvent) (b : Block) → IsLegal n planned h → (end_of h).has_finish ≡ true → is_among planned b ≡ true → place (claims_of n h) b ≡ Confirmed
+pub all_confirmed : (n : ℕ) (planned : List Block) (h : List SendEvent) (b : Block) → IsLegal n planned h → (end_of h).has_finish ≡ true → is_among planned b ≡ true → place_of b (claims_of n h) ≡ Confirmed
 all_confirmed n planned h b legal finished_is among =
     let landed = legal_lands n planned h legal finished_is in
     let none : queue_of planned (claims_of n h) ≡ [] = ap (λ p. queue_of p (claims_of n h)) (sym (planned_now-is planned h)) ∙ landed.none in

@@ -1,6 +1,7 @@
 pub mod Blocks
 pub mod Claimed
 pub mod Closed
+pub mod Compares
 pub mod Confirmed
 pub mod Connecting
 pub mod Counts
@@ -19,7 +20,9 @@ pub mod Pasts
 pub mod Phases
 pub mod Placed
 pub mod Planned
+pub mod Places
 pub mod Queue
+pub mod Refusing
 pub mod Replans
 pub mod Rights
 pub mod Runs

@@ -1,47 +1,29 @@
 -- What a destination has: its order as a place and as a test, and lists that don't differ.
-use Rattle.std.proofs.Common.{◌≡◌, ℕ, ◌+◌, ◌==◌, ◌&&◌, List, [], ◌∷◌, Bool, true, false, if◌then◌else◌, Some, None, ap, refl, bytes_eq, eq-eqb}
+use Rattle.std.proofs.Common.{◌≡◌, ℕ, zero, suc, ◌+◌, ◌<◌, ◌==◌, ◌&&◌, List, [], ◌∷◌, length, get_or, Bool, true, false, if◌then◌else◌, Option, Some, None, refl, arith, bytes_eq, eq-eqb}
 use Rattle.std.specs.List.{list_all}
-use Rattle.std.specs.Ordering.{is_lt, nat_cmp}
-use Rattle.std.specs.declared.cmp.Ordering.{Ordering}
-use Rattle.std.specs.declared.cmp.Ordering.TheVariants.{Less, Equal, Greater}
-use Rattle.std.specs.Cmp.Lexicographic.{slice_cmp}
-use Rattle.std.proofs.lemmas.Bool.{and_from, and_parts, eqb-true}
-use Rattle.std.proofs.lemmas.Cmp.{nat_list_cmp_total}
+use Rattle.std.proofs.lemmas.Bool.{and_parts, eqb-true}
 use Rattle.std.proofs.lemmas.Slice.Eq.{bytes_eq-Decides}
 use Rattle.wdt_units.specs.Have.{PlainSpan, HaveFile}
 use Rattle.wdt_units.specs.Tree.{is_before}
 use Rattle.wdt_ranges.specs.Files.{is_before_file, is_in_order}
+use Rattle.wdt_ranges.proofs.InOrder.{in_order_from}
 use Rattle.wdt_sender_fsm.specs.Chunks.{unordered_from, unordered_at, different_from, different_at, is_same_span, are_same_spans, is_same_file}
 
 -- ---- order
-
-less : (o : Ordering) → is_lt o ≡ true → o ≡ Less
-less Less h = refl
-less Equal h = cc
-less Greater h = cc
-
-before_both : (a b c : List ℕ) → is_before a b ≡ true → is_before b c ≡ true → is_before a c ≡ true
-before_both a b c h k = ap is_lt (nat_list_cmp_total.trans a b c (less (slice_cmp nat_cmp a b) h) (less (slice_cmp nat_cmp b c) k))
-
-below_all : (file next : HaveFile) (files : List HaveFile) → is_before_file file next ≡ true → list_all (is_before_file next) files ≡ true → list_all (is_before_file file) files ≡ true
-below_all file next [] h all = refl
-below_all file next (x ∷ xs) h all =
-    let parts = and_parts (is_before_file next x) (list_all (is_before_file next) xs) all in
-    and_from (is_before_file file x) (list_all (is_before_file file) xs) (before_both file.path next.path x.path h parts.0) (below_all file next xs h parts.1)
 
 some_none : {X Y : Type 0} (x : X) → Some x ≡ None → Y
 some_none x e = cc
 
 -- a list without such a place is in order
-ordered_from : (at : ℕ) (file : HaveFile) (files : List HaveFile) → unordered_from at file.path files ≡ None → is_in_order (file ∷ files) ≡ true
-ordered_from at file [] none = refl
-ordered_from at file (x ∷ xs) none = go (is_before file.path x.path) refl (ordered_from (at + 1) x xs) none where
-  go : (b : Bool) → is_before file.path x.path ≡ b → (unordered_from (at + 1) x.path xs ≡ None → is_in_order (x ∷ xs) ≡ true) → (if b then unordered_from (at + 1) x.path xs else Some at) ≡ None → is_in_order (file ∷ x ∷ xs) ≡ true
-  go true e f n =
-      let rest = f n in
-      let parts = and_parts (list_all (is_before_file x) xs) (is_in_order xs) rest in
-      and_from (list_all (is_before_file file) (x ∷ xs)) (is_in_order (x ∷ xs)) (and_from (is_before_file file x) (list_all (is_before_file file) xs) e (below_all file x xs e parts.0)) rest
-  go false e f n = some_none at n
+none_then : (b : Bool) (at : ℕ) (rest : Option ℕ) → (if b then rest else Some at) ≡ None → (b ≡ true) × (rest ≡ None)
+none_then true at rest e = (refl, e)
+none_then false at rest e = cc
+
+rises_from : (at : ℕ) (file : HaveFile) (files : List HaveFile) → unordered_from at file.path files ≡ None → (k : ℕ) (d : HaveFile) → suc k < length (file ∷ files) → is_before_file (get_or (file ∷ files) k d) (get_or (file ∷ files) (suc k) d) ≡ true
+rises_from at file [] e k d lt = absurd (omega (arith, lt))
+rises_from at file (next ∷ files) e zero d lt = (none_then (is_before file.path next.path) at (unordered_from (at + 1) next.path files) e).0
+rises_from at file (next ∷ files) e (suc k) d lt =
+    rises_from (at + 1) next files (none_then (is_before file.path next.path) at (unordered_from (at + 1) next.path files) e).1 k d (omega (arith, lt))
 
 -- and a list in order has none
 orders_from : (at : ℕ) (file : HaveFile) (files : List HaveFile) → is_in_order (file ∷ files) ≡ true → unordered_from at file.path files ≡ None
@@ -53,7 +35,7 @@ orders_from at file (x ∷ xs) is =
 
 pub ordered : (files : List HaveFile) → unordered_at files ≡ None → is_in_order files ≡ true
 ordered [] none = refl
-ordered (x ∷ xs) none = ordered_from 1 x xs none
+ordered (x ∷ xs) none = in_order_from (x ∷ xs) (rises_from 1 x xs none)
 
 pub orders : (files : List HaveFile) → is_in_order files ≡ true → unordered_at files ≡ None
 orders [] is = refl

@@ -28,7 +28,7 @@ use Rattle.wdt_sender_fsm.proofs.Works.{Works}
 known_lane : (n l : ℕ) (m : Mark) → is_stranger n l m ≡ false → (m.lane.0 < n) × (m.lane.0 ≢ l)
 known_lane n l m is = let both = or_parts (nat_le n m.lane.0) (m.lane.0 == l) is in (leb-false n m.lane.0 both.0, eqb-false m.lane.0 l both.1)
 
-or_none : (a b : Option PeerKind) → or_else a b ≡ None → (a ≡ None) × (b ≡ None)
+pub or_none : (a b : Option PeerKind) → or_else a b ≡ None → (a ≡ None) × (b ≡ None)
 or_none None b e = (refl, e)
 or_none (Some k) b e = cc
 

@@ -20,7 +20,7 @@ use Rattle.wdt_sender_fsm.proofs.Steps.{served}
 
 -- ---- done, and no lane left
 
-done_only : (d o : Bool) → standing d o ≡ answers.Done → d ≡ true
+pub done_only : (d o : Bool) → standing d o ≡ answers.Done → d ≡ true
 done_only true o e = refl
 done_only false true e = cc
 done_only false false e = cc

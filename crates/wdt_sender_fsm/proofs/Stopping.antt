@@ -19,10 +19,12 @@ use Rattle.wdt_sender_fsm.specs.Sender.{Fares, FitsIn, IsSender, is_over}
 use Rattle.wdt_sender_fsm.specs.SenderHistory.{LanePast, end_of}
 use Rattle.wdt_sender_fsm.specs.Stops.{is_through}
 use Rattle.wdt_sender_fsm.specs.Turn.{rests, leaves, gives_up, turn_row, after_starving, is_over as is_over_row, ruled, send_turn}
+use Rattle.wdt_history.proofs.Turns.{none_of}
 use Rattle.wdt_sender_fsm.proofs.Endings.{Right, Free, leaving, ended_rests, telling, follows_same, fails_now}
+use Rattle.wdt_sender_fsm.proofs.Outcomes.{done_only}
 use Rattle.wdt_sender_fsm.proofs.Rights.{Basis}
 use Rattle.wdt_sender_fsm.proofs.Served.{row_right}
-use Rattle.wdt_sender_fsm.proofs.Turns.{alive_of, not_closed, starves}
+use Rattle.wdt_sender_fsm.proofs.Turns.{alive_of, starves}
 use Rattle.wdt_sender_fsm.proofs.Works.{in_state}
 
 -- ---- which row it is
@@ -115,7 +117,7 @@ through_or_failed t l is within here = go (is_failure t.answer) (is_closed t l.0
   go : (f c : Bool) → is_failure t.answer ≡ f → is_closed t l.0 ≡ c → (is_failure t.answer ≡ true) ⊎ (is_through t l.0 ≡ true)
   go true c fails closed = inl fails
   go false true fails closed = inr (or_left (is_closed t l.0) (is_over (past_at t l.0)) closed)
-  go false false fails closed = inr (or_right (is_closed t l.0) (is_over (past_at t l.0)) (past_over (past_at t l.0) (ends (not_closed (past_at t l.0).claims.closed closed) fails)))
+  go false false fails closed = inr (or_right (is_closed t l.0) (is_over (past_at t l.0)) (past_over (past_at t l.0) (ends (none_of (past_at t l.0).claims.closed closed) fails)))
 
 -- a step by the rules, where the answer before the row follows
 ruled_right : (s t : PlainSender) (l : Lane) (state : SendState) (input : SendIn) → IsSender t → l.0 < length t.lanes → state_at t l.0 ≡ state → Follows s l input t → (Basis t l → is_ended state ≡ false → Fares state (lane_at t l.0).ask (past_at t l.0) (end_of t.history) → Right s l state input (turn_row t l (row_of state input))) → Right s l state input (ruled t l (row_of state input))
@@ -126,10 +128,10 @@ ruled_right s t l state input is within here follows served =
     (λ closed. leaving s t l (in_state t l states.Ended) state input (or_left (is_closed t l.0) (is_over (past_at t l.0)) closed) follows)
     (λ goes closed fails. telling s t l state input (lives_of state input goes) (free_of goes closed) fails is.answer.code follows)
     (λ goes closed sound. served record { within = within; free = free_of goes closed; sound = sound; planned = is.plan.planned } (lives_of state input goes)
-    (subst (λ (x : SendState). Fares x (lane_at t l.0).ask (past_at t l.0) (end_of t.history)) here ((is.sound sound).lanes l.0 within (not_closed (past_at t l.0).claims.closed closed)))) where
+    (subst (λ (x : SendState). Fares x (lane_at t l.0).ask (past_at t l.0) (end_of t.history)) here ((is.sound sound).lanes l.0 within (none_of (past_at t l.0).claims.closed closed)))) where
       free_of : is_over_row (row_of state input) ≡ false → is_closed t l.0 ≡ false → Free t.history l
       free_of goes closed =
-          let opens : (past_at t l.0).claims.closed ≡ None = not_closed (past_at t l.0).claims.closed closed in
+          let opens : (past_at t l.0).claims.closed ≡ None = none_of (past_at t l.0).claims.closed closed in
           let both = or_parts (past_at t l.0).has_quit (past_at t l.0).is_acked (alive_of t l state input is.ended within opens here goes) in
           record { is_open = opens; quit = both.0; acked = both.1 }
 
@@ -142,11 +144,6 @@ every_at (suc n) f all l within = go (every_at n f (and_parts (every n f) (f n) 
   go before (inl x) = before x
   go before (inr x) = subst (λ (k : ℕ). f k ≡ true) (omega (arith, x, within)) (and_parts (every n f) (f n) all).1
 
-done_stands : (d o : Bool) → standing d o ≡ answers.Done → d ≡ true
-done_stands true o e = refl
-done_stands false true e = cc
-done_stands false false e = cc
-
 link_stands : (d o : Bool) → standing d o ≡ answers.Link → o ≡ true
 link_stands true o e = cc
 link_stands false true e = refl
@@ -157,7 +154,7 @@ all_out : (s : PlainSender) (l : Lane) (a : EndAnswer) → s.answer ≡ a → is
 all_out s l answers.Done e sound is within free lives =
     let d : Bool = (end_of s.history).has_finish && every_lane s is_done_with in
     let done : ((end_of s.history).has_finish && every_lane s is_done_with) ≡ true =
-    done_stands ((end_of s.history).has_finish && every_lane s is_done_with) (every_lane s is_out) (sym (ap (λ (a : EndAnswer). judged a ((end_of s.history).has_finish && every_lane s is_done_with) (every_lane s is_out)) e) ∙ sym is.answer.follows ∙ e) in
+    done_only ((end_of s.history).has_finish && every_lane s is_done_with) (every_lane s is_out) (sym (ap (λ (a : EndAnswer). judged a ((end_of s.history).has_finish && every_lane s is_done_with) (every_lane s is_out)) e) ∙ sym is.answer.follows ∙ e) in
     both_ways (is_done_with s l.0)
     (or_from (past_at s l.0).is_acked (is_closed s l.0) free.acked (ap is_some free.is_open))
     (every_at (length s.lanes) (is_done_with s) (and_parts (end_of s.history).has_finish (every_lane s is_done_with) done).1 l.0 within)

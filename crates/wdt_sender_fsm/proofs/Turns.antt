@@ -1,5 +1,5 @@
 -- Each step leaves a plain sender as steps leave it.
-use Rattle.std.proofs.Common.{◌≡◌, ℕ, zero, suc, ◌<◌, ◌≤◌, ◌&&◌, List, [], length, slice_get, replicate, Bool, true, false, Option, Some, None, subst, sym, ap, ◌∙◌, refl, arith, is_some, ◌⊎◌, inl, inr}
+use Rattle.std.proofs.Common.{◌≡◌, ℕ, zero, suc, ◌<◌, ◌≤◌, ◌&&◌, List, [], length, slice_get, replicate, Bool, true, false, Some, None, subst, sym, ap, ◌∙◌, refl, arith, is_some, ◌⊎◌, inl, inr}
 use Rattle.std.proofs.lemmas.Bool.{both_ways, true≢false, and_right, not_from_false, false_from_ne_true, and_left, and_cases, or_cases, or_left, or_right}
 use Rattle.std.proofs.lemmas.List.{length-replicate}
 use Rattle.wdt_units.specs.declared.numbers.Lane.{Lane}
@@ -7,6 +7,7 @@ use Rattle.wdt_codec.specs.Frames.{Fits}
 use Rattle.wdt_codec.specs.declared.frames.Frame.{Frame}
 use Rattle.wdt_codec.specs.declared.frames.Frame.TheVariants as frames
 use Rattle.wdt_tree.specs.declared.entry.Entry.{Entry}
+use Rattle.wdt_history.proofs.Turns.{none_of}
 use Rattle.wdt_sender_fsm.specs.declared.answers.EndAnswer.{EndAnswer}
 use Rattle.wdt_sender_fsm.specs.declared.answers.EndAnswer.TheVariants as answers
 use Rattle.wdt_sender_fsm.specs.declared.inputs.SendIn.{SendIn}
@@ -121,10 +122,6 @@ rules_keep P false false false w x y z f g h k = k refl refl
 fallen_of : (s : PlainSender) → IsSender s → is_failure s.answer ≡ true → Fallen s
 fallen_of s is fails = record { legal = is.legal; plan = is.plan; failed = fails; noted = is.answer.noted; code = is.answer.code; ended = is.ended; unfinished = is.answer.unfinished fails }
 
-pub not_closed : (o : Option ℕ) → is_some o ≡ false → o ≡ None
-not_closed None e = refl
-not_closed (Some n) e = cc
-
 -- a closed lane ends
 leaves_closed : (s : PlainSender) (l : Lane) (b : Bool) → is_failure s.answer ≡ b → IsSender s → l.0 < length s.lanes → is_closed s l.0 ≡ true → Keeps (leaves s l)
 leaves_closed s l true fails is within closed = put_down s l (in_state s l states.Ended) within (λ over. refl) (fallen_of s is fails)
@@ -143,9 +140,9 @@ ruled_keeps s l state input is within here fit =
     rules_keep Keeps (is_over_row (row_of state input)) (is_closed s l.0) (is_failure s.answer) (rests s) (leaves s l) (gives_up s l (row_of state input)) (turn_row s l (row_of state input))
     is
     (λ closed. leaves_closed s l (is_failure s.answer) refl is within closed)
-    (λ goes closed fails. gave_up s l (row_of state input) within (alive_of s l state input is.ended within (not_closed (past_at s l.0).claims.closed closed) here goes) (fallen_of s is fails))
+    (λ goes closed fails. gave_up s l (row_of state input) within (alive_of s l state input is.ended within (none_of (past_at s l.0).claims.closed closed) here goes) (fallen_of s is fails))
     (λ closed sound. row_keeps s l state input
-    (at_of (not_closed (past_at s l.0).claims.closed closed) sound) fit) where
+    (at_of (none_of (past_at s l.0).claims.closed closed) sound) fit) where
       at_of : (past_at s l.0).claims.closed ≡ None → is_failure s.answer ≡ false → At s l state
       at_of opens sound = record {
         sender = is;
@@ -174,7 +171,7 @@ out_of s ended l within done = go (is_closed s l) refl (or_cases (past_at s l).i
   go true closed d = or_right (is_ended (state_at s l)) (is_closed s l) closed
   go false closed (inr d) = absurd (both_ways (is_closed s l) closed d)
   go false closed (inl d) =
-      let here : state_at s l ≡ states.Ended = ended l within (not_closed (past_at s l).claims.closed closed) (or_right (past_at s l).has_quit (past_at s l).is_acked d) in
+      let here : state_at s l ≡ states.Ended = ended l within (none_of (past_at s l).claims.closed closed) (or_right (past_at s l).has_quit (past_at s l).is_acked d) in
       or_left (is_ended (state_at s l)) (is_closed s l) (ap is_ended here)
 
 going_stands : (d o : Bool) → standing d o ≡ answers.Going → o ≡ false

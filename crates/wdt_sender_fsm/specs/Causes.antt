@@ -1,5 +1,5 @@
 -- Why an end has its answer behind a step.
-use Rattle.std.specs.Prelude.{◌≡◌, ℕ, Bool, true, false, List, [], ◌∷◌, ◌++◌, Some, None, ◌&&◌}
+use Rattle.std.specs.Prelude.{◌≡◌, ◌↔◌, ℕ, Bool, true, false, List, [], ◌∷◌, ◌++◌, Some, None, ◌&&◌}
 use Rattle.wdt_units.specs.Have.{HaveFile}
 use Rattle.wdt_units.specs.declared.numbers.Lane.{Lane}
 use Rattle.wdt_codec.specs.declared.frames.Frame.TheVariants as frames
@@ -12,7 +12,7 @@ use Rattle.wdt_sender_fsm.specs.declared.inputs.SendIn.{SendIn}
 use Rattle.wdt_sender_fsm.specs.declared.inputs.SendIn.TheVariants as inputs
 use Rattle.wdt_sender_fsm.specs.declared.states.SendState.TheVariants as states
 use Rattle.wdt_sender_fsm.specs.Chunks.{unordered_at, refusal}
-use Rattle.wdt_sender_fsm.specs.PlainSender.{PlainSender, state_at, every_lane, is_done_with, is_out}
+use Rattle.wdt_sender_fsm.specs.PlainSender.{PlainSender, is_closed, state_at, every_lane, is_done_with, is_out}
 use Rattle.wdt_sender_fsm.specs.SenderHistory.{end_of}
 use Rattle.wdt_sender_fsm.specs.Rules.{is_failure}
 
@@ -46,6 +46,11 @@ pub record Follows (s : PlainSender) (l : Lane) (input : SendIn) (t : PlainSende
   pub stays : is_failure s.answer ≡ true → t.answer ≡ s.answer
   pub still : is_failure s.answer ≡ true → t.history ≡ s.history
   pub caused : is_failure s.answer ≡ false → IsCause s l input t.history t.answer
+
+-- on an end that hasn't failed a step of a lane that isn't closed refuses the tree exactly where the lane
+-- is the first that reads what the destination has, and for the reason that it has
+pub record RefusesRightly (s : PlainSender) (l : Lane) (input : SendIn) (t : PlainSender) : Type 0 where
+  pub exactly : (kind : RefusedKind) → is_failure s.answer ≡ false → is_closed s l.0 ≡ false → (t.answer ≡ answers.Refused kind) ↔ Refuses s l.0 input kind
 
 -- ---- the answers of an end that hasn't failed
 

@@ -1,12 +1,12 @@
 -- What a destination has, as it is told: its order, how it differs from what was told before, and
 -- why the tree isn't sent to it.
-use Rattle.std.specs.Prelude.{ℕ, ◌+◌, ◌==◌, ◌&&◌, not, nat_lt, Bool, true, false, if◌then◌else◌, List, [], ◌∷◌, length, Option, Some, None, find}
+use Rattle.std.specs.Prelude.{ℕ, ◌+◌, ◌==◌, ◌&&◌, nat_lt, Bool, true, false, if◌then◌else◌, List, [], ◌∷◌, length, Option, Some, None}
 use Rattle.std.specs.Option.{option_map}
 use Rattle.std.specs.Str.{bytes_eq}
 use Rattle.wdt_units.specs.Have.{PlainSpan, HaveFile}
 use Rattle.wdt_units.specs.Tree.{is_before}
 use Rattle.wdt_tree.specs.declared.entry.Entry.{Entry}
-use Rattle.wdt_tree.specs.Listing.{has_path}
+use Rattle.wdt_rest.specs.Fitting.{found_in, first_unfit}
 use Rattle.wdt_rest.specs.RestOf.{rest_of}
 use Rattle.wdt_sender_fsm.specs.declared.answers.RefusedKind.{RefusedKind}
 use Rattle.wdt_sender_fsm.specs.declared.answers.RefusedKind.TheVariants.{Stale, TooManyBlocks}
@@ -48,30 +48,13 @@ different_at first later = different_from 0 first later
 
 -- ---- why the tree isn't sent
 
--- the size and the stamp of a file of the tree
-abbrev pub size_and_stamp : Entry → ℕ × ℕ
-size_and_stamp entry = (entry.size, entry.stamp)
-
--- those of the tree's file of a path, where it has one
-abbrev pub found_in : List Entry → List ℕ → Option (ℕ × ℕ)
-found_in entries path = option_map size_and_stamp (find (has_path path) entries)
-
--- a named file has the size and the stamp that were found
-abbrev pub has_found : Option (ℕ × ℕ) → HaveFile → Bool
-has_found None file = false
-has_found (Some found) file = found.0 == file.size && found.1 == file.stamp
-
--- a named file is one of the tree
-abbrev pub fits : List Entry → HaveFile → Bool
-fits entries file = has_found (found_in entries file.path) file
-
 -- what is said of a file that isn't
 abbrev pub stale_of : List Entry → HaveFile → RefusedKind
 stale_of entries file = Stale file.path (file.size, file.stamp) (found_in entries file.path)
 
--- the first file that isn't one of the tree, which is the one of the least path where the paths rise
+-- the first file that isn't one of the tree
 abbrev pub first_stale : List Entry → List HaveFile → Option RefusedKind
-first_stale entries have = option_map (stale_of entries) (find (λ file. not (fits entries file)) have)
+first_stale entries have = option_map (stale_of entries) (first_unfit entries have)
 
 -- more than 1,048,576 blocks are too many
 abbrev pub too_many : ℕ → Option RefusedKind

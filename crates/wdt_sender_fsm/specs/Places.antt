@@ -1,8 +1,10 @@
--- Where each block of the plan stands, read off the history.
-use Rattle.std.specs.Prelude.{◌≡◌, refl, ℕ, zero, suc, ◌+◌, ◌-◌, ◌==◌, ◌&&◌, not, Bool, if◌then◌else◌, List, [], ◌∷◌, ◌++◌, length, take, drop, filter, count_by, Option, Some, None, true, false, sum_by}
-use Rattle.std.specs.List.{list_any}
+-- What the lanes have claimed and which blocks wait, read off the history.
+use Rattle.std.specs.Prelude.{◌≡◌, refl, ℕ, zero, suc, ◌+◌, Bool, List, [], ◌∷◌, ◌++◌, length, filter, count_by, Option, Some, None, true, false}
+use Rattle.wdt_units.specs.Blocks.{count_of}
 use Rattle.wdt_units.specs.LaneWords.{Claims}
 use Rattle.wdt_units.specs.declared.blocks.Block.{Block}
+use Rattle.wdt_history.specs.Claimed.{count_kept, is_held}
+use Rattle.wdt_history.specs.Places.{is_queued}
 use Rattle.wdt_sender_fsm.specs.declared.events.SendEvent.{SendEvent}
 use Rattle.wdt_sender_fsm.specs.declared.events.SendEvent.TheVariants.{Greet, Claim, Sent, Global, Finish}
 use Rattle.wdt_sender_fsm.specs.SenderHistory.{past_of}
@@ -24,39 +26,17 @@ pub planned_now-is : (planned : List Block) (h : List SendEvent) → planned_now
 unfolding planned_now
 planned_now-is planned h = refl
 
--- two blocks are the same part of the same file
-abbrev pub is_same_block : Block → Block → Bool
-is_same_block a b = a.file == b.file && a.offset == b.offset && a.length == b.length
-
-abbrev pub is_among : List Block → Block → Bool
-is_among blocks b = list_any (is_same_block b) blocks
-
--- a block stands in a lane's list
-abbrev pub keeps : Block → Claims → Bool
-keeps b s = is_among s.kept b
-
--- it stands among those that have surely landed
-abbrev pub confirms : Block → Claims → Bool
-confirms b s = is_among (take s.sure s.kept) b
-
--- it is the last of the list, may not have landed, and is being written
-abbrev pub holds : Block → Claims → Bool
-holds b s = s.held && is_among (drop (length s.kept - 1) s.kept) b && not (confirms b s)
-
--- it stands in no lane's list
-abbrev pub is_queued : List Claims → Block → Bool
-is_queued lanes b = not (list_any (keeps b) lanes)
-
 -- the blocks of the plan that wait for a lane
 abbrev pub queue_of : List Block → List Claims → List Block
 queue_of blocks lanes = filter (is_queued lanes) blocks
 
--- how many blocks are being written
-abbrev pub is_holding : Claims → Bool
-is_holding s = s.held
+-- each planned block waits or stands in one lane's list, as often as in the plan
+abbrev pub AreShared : List Block → List Block → List Claims → Type 0
+AreShared planned waiting lanes = (block : Block) → count_of block waiting + count_kept block lanes ≡ count_of block planned
 
+-- how many blocks are being written
 abbrev pub holding : List Claims → ℕ
-holding lanes = count_by is_holding lanes
+holding lanes = count_by is_held lanes
 
 -- the least of a list of blocks by file and offset: the first, since the plan rises
 abbrev pub least_of : List Block → Option Block
@@ -70,39 +50,6 @@ queued n planned h = queue_of (planned_now planned h) (claims_of n h)
 -- how many blocks wait or are being written
 abbrev pub unfinished : ℕ → List Block → List SendEvent → ℕ
 unfinished n planned h = length (queued n planned h) + holding (claims_of n h)
-
--- where a block of the plan may stand
-pub data Standing : Type 0 where
-  -- in no lane's list
-  Queued : Standing
-  -- last in a lane's list, and being written
-  Held : Standing
-  -- in a lane's list, and not known to have landed
-  Unconfirmed : Standing
-  -- among those of a lane's list that have surely landed
-  Confirmed : Standing
-
--- where a block stands
-abbrev pub place : List Claims → Block → Standing
-place lanes b =
-    if is_queued lanes b then Queued
-    else if list_any (confirms b) lanes then Confirmed
-    else if list_any (holds b) lanes then Held
-    else Unconfirmed
-
--- ---- how often a block stands somewhere
-
--- in a list
-abbrev pub count_of : Block → List Block → ℕ
-count_of b blocks = count_by (is_same_block b) blocks
-
--- in a lane's list
-abbrev pub count_in : Block → Claims → ℕ
-count_in b s = count_of b s.kept
-
--- in the lists of all lanes
-abbrev pub count_kept : Block → List Claims → ℕ
-count_kept b lanes = sum_by (count_in b) lanes
 
 -- ---- which entries change what lanes have claimed
 

@@ -1,13 +1,17 @@
 -- A sender's end as plain data. What its lanes have claimed, what waits and how often each was
 -- connected isn't kept beside the history, since the history says it.
 use Rattle.std.specs.Prelude.{ℕ, ◌&&◌, ◌||◌, Bool, true, false, List, [], ◌++◌, length, sum_by, slice_get, slice_set, is_some, Option, Some, None}
+use Rattle.wdt_units.specs.Blocks.{AreDistinct}
 use Rattle.wdt_units.specs.Have.{HaveFile}
+use Rattle.wdt_units.specs.LaneWords.{Claims}
 use Rattle.wdt_units.specs.declared.blocks.Block.{Block}
 use Rattle.wdt_units.specs.declared.blocks.Header.{Header}
 use Rattle.wdt_units.specs.declared.numbers.Conn.{Conn}
 use Rattle.wdt_units.specs.declared.numbers.Lane.{Lane}
 use Rattle.wdt_codec.specs.declared.frames.Frame.{Frame}
 use Rattle.wdt_codec.specs.declared.frames.Frame.TheVariants as frames
+use Rattle.wdt_history.specs.Places.{place_of}
+use Rattle.wdt_history.specs.declared.place.Place.{Place}
 use Rattle.wdt_tree.specs.Listing.{size_of}
 use Rattle.wdt_tree.specs.declared.entry.Entry.{Entry}
 use Rattle.wdt_sender_fsm.specs.declared.answers.EndAnswer.{EndAnswer}
@@ -16,7 +20,7 @@ use Rattle.wdt_sender_fsm.specs.declared.events.SendEvent.{SendEvent}
 use Rattle.wdt_sender_fsm.specs.declared.states.SendLane.{SendLane}
 use Rattle.wdt_sender_fsm.specs.declared.states.SendState.{SendState}
 use Rattle.wdt_sender_fsm.specs.declared.states.SendState.TheVariants as states
-use Rattle.wdt_sender_fsm.specs.Places.{least_of, queued, unfinished}
+use Rattle.wdt_sender_fsm.specs.Places.{AreShared, claims_of, least_of, queued, unfinished}
 use Rattle.wdt_sender_fsm.specs.Rules.{every, judged}
 use Rattle.wdt_sender_fsm.specs.SenderHistory.{LanePast, past_of, end_of}
 
@@ -87,9 +91,26 @@ listed_blocks (Some blocks) = blocks
 abbrev pub blocks_of : PlainSender → List Block
 blocks_of s = listed_blocks s.planned
 
+-- what each lane has claimed
+abbrev pub lanes_claims : PlainSender → List Claims
+lanes_claims s = claims_of (length s.lanes) s.history
+
+-- the blocks that wait for a lane
+abbrev pub waiting_blocks : PlainSender → List Block
+waiting_blocks s = queued (length s.lanes) (blocks_of s) s.history
+
+-- where a block stands
+abbrev pub block_place : PlainSender → Block → Place
+block_place s b = place_of b (lanes_claims s)
+
+-- each block of the plan stands once, in the queue or in one lane's list, and no other block stands there
+pub record HasPlaces (s : PlainSender) : Type 0 where
+  pub distinct : AreDistinct (blocks_of s)
+  pub shared : AreShared (blocks_of s) (waiting_blocks s) (lanes_claims s)
+
 -- the least block that waits
 abbrev pub least_queued : PlainSender → Option Block
-least_queued s = least_of (queued (length s.lanes) (blocks_of s) s.history)
+least_queued s = least_of (waiting_blocks s)
 
 -- how many blocks wait or are being written
 abbrev pub unfinished_blocks : PlainSender → ℕ

@@ -1,7 +1,9 @@
 //! Laws of what every plain sender keeps. The functions do nothing: their contracts are the laws.
 ghost use Rattle.std.specs.Prelude.{◌≡◌, ◌↔◌, ℕ, ◌<◌, ◌≤◌, true, false, List, length, replicate, IfSome};
 ghost use Rattle.std.specs.List.{All, Contains};
+ghost use Rattle.wdt_units.specs.declared.blocks.Block.{Block};
 ghost use Rattle.wdt_units.specs.declared.numbers.Lane.{Lane};
+ghost use Rattle.wdt_history.specs.declared.place.Place.TheVariants.{Confirmed};
 ghost use Rattle.wdt_tree.specs.Rest.{IsRest};
 ghost use Rattle.wdt_tree.specs.declared.entry.Entry.{Entry};
 ghost use Rattle.wdt_sender_fsm.specs.declared.answers.EndAnswer.TheVariants as answers;
@@ -9,8 +11,8 @@ ghost use Rattle.wdt_sender_fsm.specs.declared.answers.RefusedKind.{RefusedKind}
 ghost use Rattle.wdt_sender_fsm.specs.declared.events.SendEvent.TheVariants as events;
 ghost use Rattle.wdt_sender_fsm.specs.declared.inputs.SendIn.{SendIn};
 ghost use Rattle.wdt_sender_fsm.specs.declared.peers.PeerKind.{PeerKind};
-ghost use Rattle.wdt_sender_fsm.specs.PlainSender.{PlainSender, blocks_of, is_closed, new_lane, opened, state_at};
-ghost use Rattle.wdt_sender_fsm.specs.Causes.{Follows, HasNoLane, Refuses, has_all_done};
+ghost use Rattle.wdt_sender_fsm.specs.PlainSender.{HasPlaces, PlainSender, block_place, blocks_of, is_closed, new_lane, opened, state_at};
+ghost use Rattle.wdt_sender_fsm.specs.Causes.{Follows, HasNoLane, Refuses, RefusesRightly, has_all_done};
 ghost use Rattle.wdt_sender_fsm.specs.Rules.{is_failure};
 ghost use Rattle.wdt_sender_fsm.specs.Legal.{IsLegal};
 ghost use Rattle.wdt_sender_fsm.specs.Runs.{IsStepOf, LaneStep, after_steps};
@@ -31,6 +33,13 @@ pub fn senders_stay_senders()
 /// The blocks that are to be sent are the rest of the tree: what the destination lacks, once that is known.
 pub fn the_plan_is_the_rest()
     ensures { (s : PlainSender) → IsSender s → 1 ≤ s.block → IfSome s.have (λ have. IsRest s.manifest have s.block (blocks_of s)) }
+{}
+
+/// Blocks keep their places: each block of the plan stands once, in the queue or in one lane's list, and
+/// a step leaves each confirmed block confirmed.
+pub fn blocks_keep_their_places()
+    ensures places { (s : PlainSender) → IsSender s → 1 ≤ s.block → HasPlaces s }
+    ensures confirmed { (s : PlainSender) (l : Lane) (input : SendIn) (b : Block) → IsSender s → l.0 < length s.lanes → FitsIn input → block_place s b ≡ Confirmed → block_place (send_turn s l input).1 b ≡ Confirmed }
 {}
 
 /// A step of a lane leaves the other lanes and what is sent as they are, and notes entries of that lane.
@@ -56,5 +65,6 @@ pub fn answers_have_their_causes()
     ensures link { (s : PlainSender) → IsSender s → (s.answer ≡ answers.Link) ↔ HasNoLane s }
     ensures peer { (s : PlainSender) (kind : PeerKind) → IsSender s → (s.answer ≡ answers.Peer kind) ↔ ((l : Lane) × Contains s.history (events.Peer l kind)) }
     ensures aborted { (s : PlainSender) (code : ℕ) → IsSender s → (s.answer ≡ answers.Aborted code) ↔ ((l : Lane) × Contains s.history (events.Abort l code)) }
+    ensures exactly { (s : PlainSender) (l : Lane) (input : SendIn) → IsSender s → l.0 < length s.lanes → FitsIn input → RefusesRightly s l input (send_turn s l input).1 }
     ensures refused { (s : PlainSender) (l : Lane) (input : SendIn) (kind : RefusedKind) → is_failure s.answer ≡ false → is_closed s l.0 ≡ false → Refuses s l.0 input kind → (send_turn s l input).1.answer ≡ answers.Refused kind }
 {}

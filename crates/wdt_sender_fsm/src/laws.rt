@@ -5,6 +5,8 @@ ghost use Rattle.wdt_units.specs.Have.{HaveFile};
 ghost use Rattle.wdt_units.specs.LaneWords.{no_claims, claimed, cut_to, finished, sent};
 ghost use Rattle.wdt_units.specs.declared.blocks.Block.{Block};
 ghost use Rattle.wdt_units.specs.declared.numbers.Lane.{Lane};
+ghost use Rattle.wdt_history.specs.Places.{is_among, place_of};
+ghost use Rattle.wdt_history.specs.declared.place.Place.TheVariants.{Confirmed};
 ghost use Rattle.wdt_codec.specs.declared.frames.Frame.{Frame};
 ghost use Rattle.wdt_codec.specs.declared.frames.Frame.TheVariants as frames;
 ghost use Rattle.wdt_ranges.specs.Files.{is_in_order};
@@ -17,7 +19,7 @@ ghost use Rattle.wdt_sender_fsm.specs.declared.states.SendState.{SendState};
 ghost use Rattle.wdt_sender_fsm.specs.Chunks.{different_at, unordered_at};
 ghost use Rattle.wdt_sender_fsm.specs.Legal.{IsAllowed, IsLegal, IsSound};
 ghost use Rattle.wdt_sender_fsm.specs.Phases.{Phase, Message, Agree, FitsLane, StandsIn, down, up, phase_by, phase_heard, phase_holding, is_named};
-ghost use Rattle.wdt_sender_fsm.specs.Places.{changes_claims, claims_of, count_kept, count_of, is_among, least_of, place, queued, Confirmed};
+ghost use Rattle.wdt_sender_fsm.specs.Places.{AreShared, changes_claims, claims_of, least_of, queued};
 ghost use Rattle.wdt_sender_fsm.specs.PlainSender.{PlainSender, is_closed, lane_at};
 ghost use Rattle.wdt_sender_fsm.specs.Rows.{row_of};
 ghost use Rattle.wdt_sender_fsm.specs.Rules.{is_failure};
@@ -41,9 +43,9 @@ pub fn worked_steps()
 pub fn histories_are_sound()
     ensures sound { (n : ℕ) (planned : List Block) (h : List SendEvent) (l : ℕ) → IsLegal n planned h → IsSound (past_of h l) }
     ensures closed { (h : List SendEvent) (e : SendEvent) (l m : ℕ) → (past_of h l).claims.closed ≡ Some m → (past_of (h ++ e ∷ []) l).claims.closed ≡ Some m }
-    ensures confirmed { (n : ℕ) (planned : List Block) (h : List SendEvent) (e : SendEvent) (b : Block) → IsAllowed n planned h e → place (claims_of n h) b ≡ Confirmed → place (claims_of n (h ++ e ∷ [])) b ≡ Confirmed }
-    ensures finished { (n : ℕ) (planned : List Block) (h : List SendEvent) (b : Block) → IsLegal n planned h → (end_of h).has_finish ≡ true → is_among planned b ≡ true → place (claims_of n h) b ≡ Confirmed }
-    ensures placed { (n : ℕ) (planned : List Block) (h : List SendEvent) (b : Block) → is_rising planned ≡ true → IsLegal n planned h → count_of b (queued n planned h) + count_kept b (claims_of n h) ≡ count_of b planned }
+    ensures confirmed { (n : ℕ) (planned : List Block) (h : List SendEvent) (e : SendEvent) (b : Block) → IsAllowed n planned h e → place_of b (claims_of n h) ≡ Confirmed → place_of b (claims_of n (h ++ e ∷ [])) ≡ Confirmed }
+    ensures finished { (n : ℕ) (planned : List Block) (h : List SendEvent) (b : Block) → IsLegal n planned h → (end_of h).has_finish ≡ true → is_among planned b ≡ true → place_of b (claims_of n h) ≡ Confirmed }
+    ensures placed { (n : ℕ) (planned : List Block) (h : List SendEvent) → is_rising planned ≡ true → IsLegal n planned h → AreShared planned (queued n planned h) (claims_of n h) }
 {}
 
 /// The two ends of a connection speak in turn: in no phase both have the word, and where they agree,

@@ -12,6 +12,7 @@
 
 mod acts;
 mod answers;
+mod comparing;
 mod events;
 mod inputs;
 mod keeping;
@@ -22,11 +23,12 @@ mod states;
 
 pub use acts::SendAct;
 pub use answers::{EndAnswer, RefusedKind};
+pub use comparing::{different_at, unordered_at};
 pub use events::SendEvent;
 pub use inputs::SendIn;
 pub use keeping::{
-    answers_have_their_causes, senders_stay_senders, steps_answer_rightly, steps_touch_their_lane,
-    the_plan_is_the_rest,
+    answers_have_their_causes, blocks_keep_their_places, senders_stay_senders,
+    steps_answer_rightly, steps_touch_their_lane, the_plan_is_the_rest,
 };
 pub use laws::{
     a_lane_takes_the_least_block, a_sender_speaks_in_turn, claims_follow_the_history,

@@ -1,7 +1,7 @@
 -- What an end keeps of its parts.
-use Rattle.std.proofs.Common.{◌≡◌, ◌≢◌, ℕ, ◌+◌, ◌≤◌, ◌<◌, ◌==◌, ◌&&◌, ◌||◌, not, zero, suc, Bool, true, false, List, [], ◌∷◌, ◌++◌, length, set, get_or, slice_get, Option, Some, None, Result, Ok, Err, OnOk, OnErr, IfSome, MatchOption, is_some, if◌then◌else◌, replicate, refl, sym, ap, ◌∙◌, subst, inl, inr, arith}
-use Rattle.std.proofs.lemmas.Bool.{cases_eq, eq-eqb, ne_eqb}
-use Rattle.std.proofs.lemmas.List.{length-replicate, length-set, get_or-set_same, get_or-set_other}
+use Rattle.std.proofs.Common.{◌≡◌, ◌≢◌, ℕ, ◌≤◌, ◌<◌, ◌==◌, ◌&&◌, not, zero, suc, Bool, true, false, List, [], ◌∷◌, ◌++◌, length, set, slice_get, Option, Some, None, Result, Ok, Err, OnOk, OnErr, IfSome, MatchOption, is_some, if◌then◌else◌, replicate, refl, sym, ap, ◌∙◌, subst, inl, inr, arith}
+use Rattle.std.proofs.lemmas.Bool.{cases_eq, ne_eqb}
+use Rattle.std.proofs.lemmas.List.{length-replicate, length-set}
 use Rattle.wdt_units.specs.Blocks.{count_of}
 use Rattle.wdt_units.specs.Have.{HaveFile}
 use Rattle.wdt_units.specs.LaneWords.{Claims, sent}
@@ -17,7 +17,6 @@ use Rattle.wdt_sender_fsm.specs.declared.events.SendEvent.{SendEvent}
 use Rattle.wdt_sender_fsm.specs.declared.events.SendEvent.TheVariants as events
 use Rattle.wdt_sender_fsm.specs.declared.peers.PeerKind.{PeerKind}
 use Rattle.wdt_sender_fsm.specs.declared.states.SendLane.{SendLane}
-use Rattle.wdt_sender_fsm.specs.declared.states.SendState.{SendState}
 use Rattle.wdt_sender_fsm.specs.declared.states.SendState.TheVariants.{Connect}
 use Rattle.wdt_sender_fsm.specs.declared.states.SendState.TheVariants as states
 use Rattle.wdt_sender_fsm.proofs.Steps.{get_set}
@@ -26,7 +25,7 @@ use Rattle.wdt_sender_fsm.specs.Places.{least_of, queued}
 use Rattle.wdt_sender_fsm.specs.Turn.{introduces, next_conn}
 use Rattle.wdt_sender_fsm.specs.Rules.{every, judged}
 use Rattle.wdt_sender_fsm.specs.SenderHistory.{LanePast, past_of, past_of-more, past_of-none, past_after, end_of}
-use Rattle.wdt_yard.specs.End.{AreOf, EndView, IsEnd, MayDial, is_done_in, is_out_in, state_in}
+use Rattle.wdt_yard.specs.End.{AreOf, EndView, IsEnd, MayDial, is_done_in, is_out_in}
 use Rattle.wdt_yard.specs.Ledger.{Ledger, is_quiet, with_entry}
 use Rattle.wdt_yard.specs.declared.tally.Tally.{Tally}
 use Rattle.wdt_yard.proofs.Entries.{quiet_tally}
@@ -96,9 +95,6 @@ every_false (suc n) i f lt no_i =
 
     false_and : (a b : Bool) → a ≡ false → (a && b) ≡ false
     false_and a b e = rw e refl
-
-pub neither_of : (a b : Bool) → a ≡ false → b ≡ false → (a || b) ≡ false
-neither_of a b e f = rw (e, f) refl
 
 -- ---- what a call of the journal made of an end
 

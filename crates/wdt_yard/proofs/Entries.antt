@@ -1,71 +1,47 @@
 -- What one more entry makes of the claims, the tallies and the finish.
-use Rattle.std.proofs.Common.{◌≡◌, ◌≢◌, ℕ, ◌+◌, ◌<◌, ◌==◌, Bool, true, false, eqb, List, [], ◌∷◌, ◌++◌, length, get_or, set, map, Option, Some, None, if◌then◌else◌, refl, sym, ap, ◌∙◌, subst, inl, inr, arith}
-use Rattle.std.proofs.lemmas.Bool.{cases_eq, ne_eqb, eq-eqb}
-use Rattle.wdt_units.specs.LaneWords.{Claims, no_claims, claimed, sent, cut_to, finished}
-use Rattle.wdt_units.specs.declared.blocks.Block.{Block}
-use Rattle.wdt_units.specs.declared.numbers.Conn.{Conn}
-use Rattle.wdt_units.specs.declared.numbers.Lane.{Lane}
+use Rattle.std.proofs.Common.{◌≡◌, ◌≢◌, ℕ, ◌<◌, ◌==◌, Bool, true, List, [], ◌∷◌, ◌++◌, get_or, set, if◌then◌else◌, refl, sym, ap, ◌∙◌}
+use Rattle.wdt_units.specs.LaneWords.{Claims}
 use Rattle.wdt_history.specs.Claimed.{lane_at, with_lane}
 use Rattle.wdt_sender_fsm.specs.declared.events.SendEvent.{SendEvent}
 use Rattle.wdt_sender_fsm.specs.declared.events.SendEvent.TheVariants as events
-use Rattle.wdt_sender_fsm.specs.Places.{tabulate, claims_of}
-use Rattle.wdt_sender_fsm.specs.SenderHistory.{LanePast, past_of, past_of-more, end_of, end_of-more, claims_after, close_by, connections_after, failed_tries_after, is_acked_after, end_finish_after, past_after, EndPast}
+use Rattle.wdt_sender_fsm.specs.Places.{claims_of}
+use Rattle.wdt_sender_fsm.proofs.Claimed.{claims_at, claims_one, tabulate_at, tabulate_same, tabulate_set}
+use Rattle.wdt_sender_fsm.specs.SenderHistory.{LanePast, past_of, past_of-more, end_of, end_of-more, claims_after, end_finish_after, past_after, EndPast}
 use Rattle.wdt_yard.specs.declared.tally.Tally.{Tally}
 use Rattle.wdt_yard.specs.Ledger.{is_quiet}
 use Rattle.wdt_yard.specs.Tallies.{tally_of, tallies_of}
-use Rattle.wdt_yard.proofs.Tabulates.{get_or-tabulate, same_tabulate, set_tabulate, map_tabulate}
-
--- the claims of a lane
-pub claims_at : (n : ℕ) (h : List SendEvent) (l : ℕ) → l < n → lane_at (claims_of n h) l ≡ (past_of h l).claims
-claims_at n h l lt = get_or-tabulate n l (λ k. (past_of h k).claims) no_claims lt
 
 pub tally_at : (n : ℕ) (h : List SendEvent) (l : ℕ) (d : Tally) → l < n → get_or (tallies_of n h) l d ≡ tally_of (past_of h l)
-tally_at n h l d lt = get_or-tabulate n l (λ k. tally_of (past_of h k)) d lt
+tally_at n h l d lt = tabulate_at n (λ k. tally_of (past_of h k)) l d lt
 
 -- ---- entries that leave the claims alone
 
 pub claims_same : (n : ℕ) (h : List SendEvent) (e : SendEvent) → ((l : ℕ) (s : Claims) → claims_after l s e ≡ s) → claims_of n (h ++ e ∷ []) ≡ claims_of n h
 claims_same n h e stay =
-    same_tabulate n (λ k. (past_of h k).claims) (λ k. (past_of (h ++ e ∷ []) k).claims) (λ k. ap (λ (p : LanePast). p.claims) (past_of-more h e k) ∙ stay k (past_of h k).claims)
+    tabulate_same n (λ k. (past_of h k).claims) (λ k. (past_of (h ++ e ∷ []) k).claims) (λ k lt. ap (λ (p : LanePast). p.claims) (past_of-more h e k) ∙ stay k (past_of h k).claims)
 
 pub tallies_same : (n : ℕ) (h : List SendEvent) (e : SendEvent) → ((l : ℕ) (p : LanePast) → tally_of (past_after l p e) ≡ tally_of p) → tallies_of n (h ++ e ∷ []) ≡ tallies_of n h
 tallies_same n h e stay =
-    same_tabulate n (λ k. tally_of (past_of h k)) (λ k. tally_of (past_of (h ++ e ∷ []) k)) (λ k. ap tally_of (past_of-more h e k) ∙ stay k (past_of h k))
+    tabulate_same n (λ k. tally_of (past_of h k)) (λ k. tally_of (past_of (h ++ e ∷ []) k)) (λ k lt. ap tally_of (past_of-more h e k) ∙ stay k (past_of h k))
 
 pub finish_same : (h : List SendEvent) (e : SendEvent) → ((b : Bool) → end_finish_after b e ≡ b) → (end_of (h ++ e ∷ [])).has_finish ≡ (end_of h).has_finish
 finish_same h e stay = ap (λ (p : EndPast). p.has_finish) (end_of-more h e) ∙ stay (end_of h).has_finish
 
 -- ---- entries of one lane
 
-chosen : {X : Type 0} (k l : ℕ) (x y : X) → k ≡ l → (if k == l then x else y) ≡ x
-chosen k l x y e = rw (eq-eqb k l e) refl
-
-other : {X : Type 0} (k l : ℕ) (x y : X) → k ≢ l → (if k == l then x else y) ≡ y
-other k l x y n = rw (ne_eqb k l n) refl
-
 -- the claims of one lane change
 pub claims_set : (n : ℕ) (h : List SendEvent) (e : SendEvent) (l : ℕ) (change : Claims → Claims) → l < n → ((k : ℕ) (s : Claims) → claims_after k s e ≡ (if l == k then change s else s))
     → claims_of n (h ++ e ∷ []) ≡ with_lane (claims_of n h) l (change (lane_at (claims_of n h) l))
 claims_set n h e l change lt does =
-    set_tabulate n l (λ k. (past_of h k).claims) (λ k. (past_of (h ++ e ∷ []) k).claims) (change (lane_at (claims_of n h) l)) lt
-    (ap change (claims_at n h l lt) ∙ sym (more l ∙ chosen l l (change (past_of h l).claims) (past_of h l).claims refl))
-    (λ k o. more k ∙ other l k (change (past_of h k).claims) (past_of h k).claims (λ e. o (sym e)))
-  where
-    more : (k : ℕ) → (past_of (h ++ e ∷ []) k).claims ≡ (if l == k then change (past_of h k).claims else (past_of h k).claims)
-    more k = ap (λ (p : LanePast). p.claims) (past_of-more h e k) ∙ does k (past_of h k).claims
+    claims_one n h e l change lt does ∙ ap (λ (s : Claims). with_lane (claims_of n h) l (change s)) (sym (claims_at n h l lt))
 
 -- the tally of one lane changes
 pub tallies_set : (n : ℕ) (h : List SendEvent) (e : SendEvent) (l : ℕ) (y : Tally) → l < n → y ≡ tally_of (past_after l (past_of h l) e) → ((k : ℕ) (p : LanePast) → k ≢ l → tally_of (past_after k p e) ≡ tally_of p)
     → tallies_of n (h ++ e ∷ []) ≡ set (tallies_of n h) l y
 tallies_set n h e l y lt here others =
-    set_tabulate n l (λ k. tally_of (past_of h k)) (λ k. tally_of (past_of (h ++ e ∷ []) k)) y lt
-    (here ∙ sym (ap tally_of (past_of-more h e l)))
+    tabulate_set n l (λ k. tally_of (past_of h k)) (λ k. tally_of (past_of (h ++ e ∷ []) k)) lt
     (λ k o. ap tally_of (past_of-more h e k) ∙ others k (past_of h k) o)
-
-pub claims_finished : (n : ℕ) (h : List SendEvent) (l : Lane) → claims_of n (h ++ events.Finish l ∷ []) ≡ map finished (claims_of n h)
-claims_finished n h l =
-    same_tabulate n (λ k. finished (past_of h k).claims) (λ k. (past_of (h ++ events.Finish l ∷ []) k).claims) (λ k. ap (λ (p : LanePast). p.claims) (past_of-more h (events.Finish l) k))
-    ∙ sym (map_tabulate finished n (λ k. (past_of h k).claims))
+    ∙ ap (λ (x : Tally). set (tallies_of n h) l x) (ap tally_of (past_of-more h e l) ∙ sym here)
 
 -- ---- the quiet entries
 

@@ -1,43 +1,35 @@
 -- What a journal keeps, behind each entry.
-use Rattle.std.proofs.Common.{◌≡◌, ◌≢◌, ℕ, ◌+◌, ◌≤◌, ◌<◌, ◌^◌, ◌==◌, Bool, true, false, List, [], ◌∷◌, ◌++◌, length, get_or, set, take, drop, map, Option, Some, None, Result, Ok, Err, OnOk, IfOk, IsSome, is_some, if◌then◌else◌, refl, sym, ap, ◌∙◌, subst, inl, inr, arith}
-use Rattle.std.specs.List.{sum_by}
-use Rattle.std.specs.Option.{option_map}
+use Rattle.std.proofs.Common.{◌≡◌, ◌≢◌, ℕ, ◌+◌, ◌<◌, ◌==◌, Bool, true, List, [], ◌∷◌, ◌++◌, length, set, drop, map, Option, Some, None, Result, Ok, Err, OnOk, IfOk, IsSome, is_some, if◌then◌else◌, refl, sym, ap, ◌∙◌, subst, arith}
 use Rattle.std.specs.Result.{result_err}
 use Rattle.std.proofs.lemmas.Bool.{eq-eqb, ne_eqb}
-use Rattle.std.proofs.lemmas.Bool.Decides.{nat_tests}
-use Rattle.std.proofs.lemmas.List.{get_or_read, length-append, length-set, length_push, take-append-drop, set-get_or}
-use Rattle.std.proofs.lemmas.List.Sums.{sum_by-cons, sum_by-set, get_or-le-sum_by}
+use Rattle.std.proofs.lemmas.List.{length-set, length_push, set-get_or}
 use Rattle.wdt_units.specs.declared.blocks.Block.{Block}
 use Rattle.wdt_units.specs.declared.numbers.Conn.{Conn}
 use Rattle.wdt_units.specs.declared.numbers.Lane.{Lane}
-use Rattle.wdt_units.specs.Blocks.{are_rising, count_of, AreDistinct, HaveSameBlocks}
+use Rattle.wdt_units.specs.Blocks.{are_rising, count_of, HaveSameBlocks}
 use Rattle.wdt_units.specs.LaneWords.{Claims, no_claims, claimed, sent, cut_to, closed_at, finished}
-use Rattle.wdt_units.proofs.BlockCounts.{count_of-append, count_of-cons, count_of-nil, count_of-parts, count_of-push, one_if-true, rising_distinct}
+use Rattle.wdt_units.proofs.BlockCounts.{count_of-cons, count_of-nil, count_of-push, one_if-true, rising_distinct}
 use Rattle.wdt_units.proofs.BlockOrder.{same_itself}
 use Rattle.wdt_queue.specs.Waiting.{Waiting}
 use Rattle.wdt_history.specs.declared.check.CheckFail.{CheckFail}
 use Rattle.wdt_history.specs.Checks.{fault_of, goes_back, back_by}
-use Rattle.wdt_history.specs.Checks as checks
-use Rattle.wdt_history.specs.Claimed.{count_in, count_kept, lane_at, with_lane}
+use Rattle.wdt_history.specs.Claimed.{count_kept, lane_at, with_lane}
 use Rattle.wdt_history.specs.Slots.{Book}
-use Rattle.wdt_history.proofs.Keeps.{count_in-le, count_kept-finished, count_kept-with}
+use Rattle.wdt_history.proofs.Keeps.{count_kept-finished, count_kept-with}
 use Rattle.wdt_sender_fsm.specs.declared.events.SendEvent.{SendEvent}
 use Rattle.wdt_sender_fsm.specs.declared.events.SendEvent.TheVariants as events
-use Rattle.wdt_sender_fsm.specs.declared.peers.PeerKind.{PeerKind}
 use Rattle.wdt_sender_fsm.specs.Faults.{count_fault}
-use Rattle.wdt_sender_fsm.specs.Faults as faults
-use Rattle.wdt_sender_fsm.specs.Places.{claims_of, queued}
-use Rattle.wdt_sender_fsm.specs.SenderHistory.{LanePast, no_past, past_from, past_of, past_after, end_of, end_of-more, end_finish_after, claims_after, close_by, EndPast}
+use Rattle.wdt_sender_fsm.specs.Places.{AreShared, claims_of}
+use Rattle.wdt_sender_fsm.specs.SenderHistory.{LanePast, past_of, past_after, end_of-more, end_finish_after, claims_after, close_by, EndPast}
 use Rattle.wdt_yard.specs.declared.tally.Tally.{Tally}
-use Rattle.wdt_yard.specs.Kept.{IsKept, AreShared, length_of, total_kept}
-use Rattle.wdt_yard.specs.Kinds.{kind_of}
+use Rattle.wdt_yard.specs.Kept.{IsKept, total_kept}
 use Rattle.wdt_yard.specs.Ledger.{is_quiet}
 use Rattle.wdt_yard.specs.Tallies.{tally_of, tallies_of}
 use Rattle.wdt_yard.proofs.Counts.{right_count}
-use Rattle.wdt_yard.proofs.Entries.{claims_at, tally_at, claims_same, tallies_same, finish_same, claims_set, tallies_set, claims_finished, quiet_claims, quiet_tally, quiet_finish}
-use Rattle.wdt_yard.proofs.Queues.{nothing_in, queue_is, rising_rest}
-use Rattle.wdt_yard.proofs.Tabulates.{length-tabulate}
-use Rattle.wdt_yard.proofs.Readings.{lanes_within, claims_read, tally_read, queue_read, none_of, still_open, total_with, total-le, total_finished, none_kept, parts_length, back_fits, back_absent, tries-le}
+use Rattle.wdt_yard.proofs.Entries.{claims_same, tallies_same, finish_same, claims_set, tallies_set, quiet_claims, quiet_tally, quiet_finish}
+use Rattle.wdt_yard.proofs.Queues.{rising_rest}
+use Rattle.wdt_sender_fsm.proofs.Claimed.{claims_finish}
+use Rattle.wdt_yard.proofs.Readings.{lanes_within, claims_read, total_with, total_finished, none_kept, parts_length}
 
 -- ---- quiet entries
 
@@ -206,7 +198,7 @@ closing_keeps {t} {p} {q} {f} {h} k l n r old new q' is lt right fault closes wa
 pub finish_keeps : {t : List Tally} {p : List Block} {q : Waiting} {ls : List Claims} {f : Bool} {h : List SendEvent} (l : Lane) → IsKept t p q ls f h → IsKept t p q (map finished ls) true (h ++ events.Finish l ∷ [])
 finish_keeps {t} {p} {q} {ls} {f} {h} l k = record {
   few = k.few;
-  claims = ap (map finished) k.claims ∙ sym (claims_finished (length t) h l);
+  claims = ap (map finished) k.claims ∙ sym (claims_finish (length t) h l);
   tallied = k.tallied ∙ sym (tallies_same (length t) h (events.Finish l) (λ j past. refl));
   finished = sym (ap (λ (e : EndPast). e.has_finish) (end_of-more h (events.Finish l)));
   waiting = k.waiting;

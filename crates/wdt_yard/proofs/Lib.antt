@@ -1,4 +1,3 @@
-pub mod Compares
 pub mod Counts
 pub mod Ends
 pub mod Entries
@@ -12,4 +11,3 @@ pub mod Readings
 pub mod Results
 pub mod Starts
 pub mod Steps
-pub mod Tabulates

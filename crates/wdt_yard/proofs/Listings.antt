@@ -1,11 +1,11 @@
 -- What the destination has, told first or again.
-use Rattle.std.proofs.Common.{◌≡◌, ℕ, List, Option, Some, None, refl, sym, ap, ◌∙◌}
+use Rattle.std.proofs.Common.{◌≡◌, ℕ, List, Option, Some, None, refl, ap, ◌∙◌}
 use Rattle.std.specs.Option.{option_map}
 use Rattle.wdt_units.specs.Have.{HaveFile}
 use Rattle.wdt_units.specs.declared.numbers.Lane.{Lane}
 use Rattle.wdt_sender_fsm.specs.Chunks.{different_at, refusal, unordered_at}
 use Rattle.wdt_sender_fsm.specs.PlainSender.{PlainSender}
-use Rattle.wdt_sender_fsm.specs.Turn.{Step, listed, listed_after, listed_again, listed_in, planned_by}
+use Rattle.wdt_sender_fsm.specs.Turn.{listed, listed_after, listed_again, listed_in, planned_by}
 
 -- nothing was told before
 pub none_told : (o : Option (List HaveFile)) (have : List HaveFile) → None ≡ option_map (λ first. different_at first have) o → o ≡ None

@@ -1,17 +1,16 @@
 -- Lanes that are told closed, one after another.
-use Rattle.std.proofs.Common.{◌≡◌, ◌≢◌, ℕ, zero, suc, ◌+◌, ◌<◌, ◌==◌, ◌||◌, Bool, true, false, List, [], ◌∷◌, ◌++◌, length, get_or, take, drop, map, Option, Some, None, is_some, if◌then◌else◌, refl, sym, ap, ◌∙◌, subst, inl, inr, arith}
+use Rattle.std.proofs.Common.{◌≡◌, ℕ, zero, suc, ◌+◌, ◌<◌, ◌==◌, ◌||◌, Bool, true, false, List, [], ◌∷◌, ◌++◌, length, get_or, take, drop, Option, Some, None, if◌then◌else◌, refl, sym, ap, ◌∙◌, arith}
 use Rattle.std.specs.Prelude.{nat_le}
-use Rattle.std.specs.List.{list_any}
-use Rattle.std.proofs.lemmas.Bool.{cases_eq, eq-eqb, ne_eqb, eqb-false, false≢true}
+use Rattle.std.proofs.lemmas.Bool.{false≢true}
 use Rattle.std.proofs.lemmas.List.{append_assoc, append-nil, drop_more, map_more}
-use Rattle.wdt_units.specs.LaneWords.{Claims, closed_at}
+use Rattle.wdt_units.specs.LaneWords.{Claims}
 use Rattle.wdt_units.specs.declared.numbers.Lane.{Lane}
 use Rattle.wdt_codec.specs.declared.frames.Mark.{Mark}
 use Rattle.wdt_sender_fsm.specs.declared.events.SendEvent.{SendEvent}
-use Rattle.wdt_sender_fsm.specs.declared.events.SendEvent.TheVariants as events
 use Rattle.wdt_sender_fsm.specs.declared.peers.PeerKind.{PeerKind}
 use Rattle.wdt_sender_fsm.specs.Faults.{count_fault, has_stranger, is_stranger, marks_fault, or_else}
 use Rattle.wdt_sender_fsm.specs.PlainSender.{PlainSender, noted}
+use Rattle.wdt_sender_fsm.proofs.Marking.{or_none}
 use Rattle.wdt_sender_fsm.specs.SenderHistory.{LanePast, past_of, past_of-more, close_by}
 use Rattle.wdt_sender_fsm.specs.Turn.{global, globals}
 
@@ -25,14 +24,10 @@ pub marks_on : (h : List SendEvent) (ms : List Mark) (i : ℕ) (d : Mark) → i 
 marks_on h ms i d lt e =
     ap (marks_fault h) (drop_more ms i d lt) ∙ sym (ap (λ (o : Option PeerKind). or_else o (marks_fault h (drop (i + 1) ms))) e)
 
-first_right : (o later : Option PeerKind) → or_else o later ≡ None → (o ≡ None) × (later ≡ None)
-first_right None later e = (refl, e)
-first_right (Some x) later e = cc
-
 pub mark_right : (h : List SendEvent) (ms : List Mark) (i : ℕ) (d : Mark) → marks_fault h ms ≡ None → i < length ms → count_fault (past_of h (get_or ms i d).lane.0).claims (get_or ms i d).count ≡ None
 mark_right h [] i d e lt = absurd (omega (arith, lt))
-mark_right h (m ∷ ms) zero d e lt = (first_right (count_fault (past_of h m.lane.0).claims m.count) (marks_fault h ms) e).0
-mark_right h (m ∷ ms) (suc i) d e lt = mark_right h ms i d (first_right (count_fault (past_of h m.lane.0).claims m.count) (marks_fault h ms) e).1 (omega (arith, lt))
+mark_right h (m ∷ ms) zero d e lt = (or_none (count_fault (past_of h m.lane.0).claims m.count) (marks_fault h ms) e).0
+mark_right h (m ∷ ms) (suc i) d e lt = mark_right h ms i d (or_none (count_fault (past_of h m.lane.0).claims m.count) (marks_fault h ms) e).1 (omega (arith, lt))
 
 -- ---- what they change
 

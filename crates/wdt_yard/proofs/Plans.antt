@@ -1,22 +1,21 @@
 -- What is planned, in the words of the end.
-use Rattle.std.proofs.Common.{◌≡◌, ℕ, ◌+◌, ◌≤◌, ◌<◌, ◌==◌, ◌&&◌, ◌||◌, not, nat_lt, nat_le, Bool, true, false, cond, List, [], ◌∷◌, length, find, Option, Some, None, slice_get, if◌then◌else◌, refl, sym, ap, ◌∙◌, subst, inl, inr, arith}
-use Rattle.std.specs.List.{count_by, list_all, sum_by}
+use Rattle.std.proofs.Common.{◌≡◌, ℕ, ◌+◌, ◌≤◌, ◌<◌, ◌==◌, ◌&&◌, nat_lt, nat_le, Bool, true, false, cond, List, [], ◌∷◌, length, Option, Some, None, slice_get, if◌then◌else◌, refl, sym, ap, ◌∙◌, inl, inr, arith}
+use Rattle.std.specs.List.{count_by}
 use Rattle.std.specs.Option.{option_and_then, option_map}
-use Rattle.std.proofs.lemmas.Bool.{cases_eq, cases_lt, eq-eqb, lt-ltb, le-leb, false≢true}
-use Rattle.std.proofs.lemmas.Bool.Decides.{nat_tests}
+use Rattle.std.proofs.lemmas.Bool.{and_from, cases_eq, eq-eqb, lt-ltb, le-leb}
 use Rattle.std.proofs.lemmas.List.Sums.{sum_by-cons}
 use Rattle.std.proofs.lemmas.Option.{slice_get_within}
 use Rattle.wdt_units.specs.Have.{HaveFile}
 use Rattle.wdt_units.specs.declared.blocks.Block.{Block}
-use Rattle.wdt_units.specs.Blocks.{precedes, are_rising, is_same, count_of}
+use Rattle.wdt_units.specs.Blocks.{is_same, count_of}
 use Rattle.wdt_units.proofs.BlockCounts.{count_of-nil, count_of-cons, one_if-true, one_if-false, one_if_same}
 use Rattle.wdt_units.proofs.BlockOrder.{one_block}
 use Rattle.wdt_tree.specs.declared.entry.Entry.{Entry}
-use Rattle.wdt_tree.specs.Rest.{IsRest, holds, is_earlier, is_empty_of, is_missing, is_rising, lacks_name, lacks_position}
+use Rattle.wdt_tree.specs.Rest.{IsRest, holds, is_empty_of, lacks_name, lacks_position}
+use Rattle.wdt_rest.specs.Fitting.{first_unfit}
 use Rattle.wdt_rest.specs.RestOf.{rest_of}
 use Rattle.wdt_discover.specs.Plan as plans
-use Rattle.wdt_sender_fsm.specs.Chunks.{fits, first_stale, refusal, refusal_after, stale_of, too_many}
-use Rattle.wdt_sender_fsm.specs.declared.answers.RefusedKind.{RefusedKind}
+use Rattle.wdt_sender_fsm.specs.Chunks.{refusal, refusal_after, stale_of, too_many}
 use Rattle.wdt_yard.specs.End.{AreOf}
 use Rattle.wdt_yard.specs.Kinds.{refused_as}
 
@@ -33,31 +32,7 @@ after_is entries have most None = many_is (length (rest_of entries have most))
 after_is entries have most (Some file) = refl
 
 pub refusal_is : (entries : List Entry) (have : List HaveFile) (most : ℕ) → refusal entries have most ≡ option_and_then refused_as (plans.refusal entries have most)
-refusal_is entries have most = after_is entries have most (find (λ file. not (fits entries file)) have)
-
--- ---- the blocks rise
-
-earlier_precedes : (a b : Block) → is_earlier a b ≡ true → precedes a b ≡ true
-earlier_precedes a b e = grind (arith, nat_tests)
-
-both : (a b : Bool) → (a && b) ≡ true → (a ≡ true) × (b ≡ true)
-both true b e = (refl, e)
-both false b e = absurd (false≢true e)
-
-joined : (a b : Bool) → a ≡ true → b ≡ true → (a && b) ≡ true
-joined a b e f = rw (e, f) refl
-
-all_precede : (a : Block) (xs : List Block) → list_all (is_earlier a) xs ≡ true → list_all (precedes a) xs ≡ true
-all_precede a [] e = refl
-all_precede a (x ∷ xs) e =
-    let parts = both (is_earlier a x) (list_all (is_earlier a) xs) e in
-    joined (precedes a x) (list_all (precedes a) xs) (earlier_precedes a x parts.0) (all_precede a xs parts.1)
-
-pub rest_rises : (xs : List Block) → is_rising xs ≡ true → are_rising xs ≡ true
-rest_rises [] e = refl
-rest_rises (x ∷ xs) e =
-    let parts = both (list_all (is_earlier x) xs) (is_rising xs) e in
-    joined (list_all (precedes x) xs) (are_rising xs) (all_precede x xs parts.0) (rest_rises xs parts.1)
+refusal_is entries have most = after_is entries have most (first_unfit entries have)
 
 -- ---- the blocks are of the tree's files
 
@@ -81,14 +56,14 @@ rest_files entries have most blocks rest b some =
     elim (cases_eq b.length 0) [
       | inl empty ↦
           is_there entries b.file (lacks_name have) (count_by (is_empty_of b.file) blocks) refl (rest.empty b.file)
-          (omega (arith, some, counted (is_empty_of b.file) b blocks (joined (b.file == b.file) (b.length == 0) (eq-eqb b.file b.file refl) (eq-eqb b.length 0 empty))))
+          (omega (arith, some, counted (is_empty_of b.file) b blocks (and_from (b.file == b.file) (b.length == 0) (eq-eqb b.file b.file refl) (eq-eqb b.length 0 empty))))
       | inr full ↦
           is_there entries b.file (λ o. lacks_position have o b.offset) (count_by (holds b.file b.offset) blocks) refl (rest.exact b.file b.offset)
           (omega (
             arith,
             some,
             counted (holds b.file b.offset) b blocks
-                (joined (b.file == b.file && nat_le b.offset b.offset) (nat_lt b.offset (b.offset + b.length))
-                (joined (b.file == b.file) (nat_le b.offset b.offset) (eq-eqb b.file b.file refl) (le-leb b.offset b.offset (omega arith))) (lt-ltb b.offset (b.offset + b.length) (omega (arith, full)))),
+                (and_from (b.file == b.file && nat_le b.offset b.offset) (nat_lt b.offset (b.offset + b.length))
+                (and_from (b.file == b.file) (nat_le b.offset b.offset) (eq-eqb b.file b.file refl) (le-leb b.offset b.offset (omega arith))) (lt-ltb b.offset (b.offset + b.length) (omega (arith, full)))),
           ))
     ]

@@ -1,105 +1,49 @@
 -- The blocks that wait are the planned ones that stand in no lane's list.
-use Rattle.std.proofs.Common.{◌≡◌, ◌⊎◌, ℕ, ◌+◌, ◌≤◌, ◌<◌, Bool, true, false, not, ◌||◌, ◌&&◌, List, [], ◌∷◌, length, Some, if◌then◌else◌, refl, sym, ap, ◌∙◌, subst, inl, inr, arith}
-use Rattle.std.specs.List.{filter, list_all, list_any, sum_by}
-use Rattle.std.proofs.lemmas.Bool.{cases_Bool, false≢true}
+use Rattle.std.proofs.Common.{◌≡◌, ◌⊎◌, ℕ, ◌≤◌, Bool, true, false, not, ◌||◌, List, [], ◌∷◌, length, None, Some, if◌then◌else◌, refl, sym, ap, ◌∙◌, inl, inr, arith}
+use Rattle.std.specs.List.{filter, list_all, list_any}
+use Rattle.std.proofs.lemmas.Bool.{and_from, and_parts, or_parts, false≢true}
 use Rattle.std.proofs.lemmas.List.Sums.{sum_by-cons}
 use Rattle.std.proofs.lemmas.Option.{same_Some}
 use Rattle.wdt_units.specs.declared.blocks.Block.{Block}
-use Rattle.wdt_units.specs.Blocks.{precedes, are_rising, is_same, count_of, AreDistinct, HaveSameBlocks}
+use Rattle.wdt_units.specs.Blocks.{precedes, are_rising, is_same, count_of}
 use Rattle.wdt_units.specs.LaneWords.{Claims}
-use Rattle.wdt_units.proofs.BlockOrder.{one_block, same_itself}
-use Rattle.wdt_units.proofs.BlockCounts.{count_of-nil, count_of-cons, one_if-true, one_if-false, rising_once, rising_distinct}
+use Rattle.wdt_units.proofs.BlockOrder.{same_itself}
+use Rattle.wdt_units.proofs.BlockCounts.{count_of-cons, one_if-true, rising_once, rising_distinct}
 use Rattle.wdt_history.specs.Claimed.{count_in, count_kept}
+use Rattle.wdt_history.specs.Places.{is_queued, keeps}
+use Rattle.wdt_history.proofs.Found.{absent}
 use Rattle.wdt_sender_fsm.specs.declared.events.SendEvent.{SendEvent}
-use Rattle.wdt_sender_fsm.specs.Places.{least_of, is_among, is_queued, is_same_block, keeps, queue_of, queued, claims_of, planned_now}
-use Rattle.wdt_yard.specs.Kept.{AreShared}
+use Rattle.wdt_sender_fsm.specs.Places.{AreShared, least_of, queue_of, queued, claims_of, planned_now}
+use Rattle.wdt_sender_fsm.proofs.Counts.{present, kept_count, dropped_count}
+use Rattle.wdt_sender_fsm.proofs.Queue.{filter_all}
 
--- ---- filters
-
-apart_if : (p : Block → Bool) (b x : Block) (t : Bool) → p b ≡ true → p x ≡ false → is_same b x ≡ t → is_same b x ≡ false
-apart_if p b x true has no_x s = absurd (false≢true (sym no_x ∙ ap p (sym (one_block b x s)) ∙ has))
-apart_if p b x false has no_x s = s
-
-kept_go : (p : Block → Bool) (b x : Block) (xs : List Block) (t : Bool) → p b ≡ true → count_of b (filter p xs) ≡ count_of b xs → p x ≡ t → count_of b (filter p (x ∷ xs)) ≡ count_of b (x ∷ xs)
-kept_go p b x xs true has rest e = rw e (omega (arith, count_of-cons b x (filter p xs), count_of-cons b x xs, rest))
-kept_go p b x xs false has rest e = rw e (omega (arith, count_of-cons b x xs, rest, one_if-false b x (apart_if p b x (is_same b x) has e refl)))
-
-pub kept_count : (p : Block → Bool) (b : Block) (xs : List Block) → p b ≡ true → count_of b (filter p xs) ≡ count_of b xs
-kept_count p b [] has = refl
-kept_count p b (x ∷ xs) has = kept_go p b x xs (p x) has (kept_count p b xs has) refl
-
-apart_from : (p : Block → Bool) (b x : Block) (t : Bool) → p b ≡ false → p x ≡ true → is_same b x ≡ t → is_same b x ≡ false
-apart_from p b x true not_it has_x s = absurd (false≢true (sym not_it ∙ ap p (one_block b x s) ∙ has_x))
-apart_from p b x false not_it has_x s = s
-
-dropped_go : (p : Block → Bool) (b x : Block) (xs : List Block) (t : Bool) → p b ≡ false → count_of b (filter p xs) ≡ 0 → p x ≡ t → count_of b (filter p (x ∷ xs)) ≡ 0
-dropped_go p b x xs false not_it rest e = rw e rest
-dropped_go p b x xs true not_it rest e = rw e (omega (arith, count_of-cons b x (filter p xs), rest, one_if-false b x (apart_from p b x (is_same b x) not_it e refl)))
-
-pub dropped_count : (p : Block → Bool) (b : Block) (xs : List Block) → p b ≡ false → count_of b (filter p xs) ≡ 0
-dropped_count p b [] not_it = count_of-nil b
-dropped_count p b (x ∷ xs) not_it = dropped_go p b x xs (p x) not_it (dropped_count p b xs not_it) refl
-
-both : (a b : Bool) → (a && b) ≡ true → (a ≡ true) × (b ≡ true)
-both true b e = (refl, e)
-both false b e = absurd (false≢true e)
-
-joined : (a b : Bool) → a ≡ true → b ≡ true → (a && b) ≡ true
-joined a b e f = rw (e, f) refl
-
-all_go : (p q : Block → Bool) (x : Block) (xs : List Block) (t : Bool) → q x ≡ true → list_all q (filter p xs) ≡ true → p x ≡ t → list_all q (filter p (x ∷ xs)) ≡ true
-all_go p q x xs true here rest e = rw e (joined (q x) (list_all q (filter p xs)) here rest)
-all_go p q x xs false here rest e = rw e rest
-
-pub all_kept : (p q : Block → Bool) (xs : List Block) → list_all q xs ≡ true → list_all q (filter p xs) ≡ true
-all_kept p q [] all = refl
-all_kept p q (x ∷ xs) all =
-    let parts = both (q x) (list_all q xs) all in
-    all_go p q x xs (p x) parts.0 (all_kept p q xs parts.1) refl
+-- ---- what rises
 
 rising_go : (p : Block → Bool) (x : Block) (xs : List Block) (t : Bool) → list_all (precedes x) xs ≡ true → are_rising (filter p xs) ≡ true → p x ≡ t → are_rising (filter p (x ∷ xs)) ≡ true
-rising_go p x xs true before rest e = rw e (joined (list_all (precedes x) (filter p xs)) (are_rising (filter p xs)) (all_kept p (precedes x) xs before) rest)
+rising_go p x xs true before rest e = rw e (and_from (list_all (precedes x) (filter p xs)) (are_rising (filter p xs)) (filter_all p (precedes x) xs before) rest)
 rising_go p x xs false before rest e = rw e rest
 
 pub filter_rising : (p : Block → Bool) (xs : List Block) → are_rising xs ≡ true → are_rising (filter p xs) ≡ true
 filter_rising p [] up = refl
 filter_rising p (x ∷ xs) up =
-    let parts = both (list_all (precedes x) xs) (are_rising xs) up in
+    let parts = and_parts (list_all (precedes x) xs) (are_rising xs) up in
     rising_go p x xs (p x) parts.0 (filter_rising p xs parts.1) refl
 
 pub rising_rest : (x : Block) (xs : List Block) → are_rising (x ∷ xs) ≡ true → are_rising xs ≡ true
-rising_rest x xs up = (both (list_all (precedes x) xs) (are_rising xs) up).1
+rising_rest x xs up = (and_parts (list_all (precedes x) xs) (are_rising xs) up).1
 
--- ---- blocks in lists
+-- ---- blocks in lanes' lists
 
 either : (a b : Bool) → (a || b) ≡ true → (a ≡ true) ⊎ (b ≡ true)
 either true b e = inl refl
 either false b e = inr e
-
-neither : (a b : Bool) → (a || b) ≡ false → (a ≡ false) × (b ≡ false)
-neither true b e = absurd (false≢true (sym e))
-neither false b e = (refl, e)
-
-among : (b : Block) (xs : List Block) → is_among xs b ≡ true → 1 ≤ count_of b xs
-among b [] e = absurd (false≢true e)
-among b (x ∷ xs) e =
-    elim (either (is_same b x) (is_among xs b) e) [
-      | inl s ↦ omega (arith, count_of-cons b x xs, one_if-true b x s)
-      | inr r ↦ omega (arith, count_of-cons b x xs, among b xs r)
-    ]
-
-not_among : (b : Block) (xs : List Block) → is_among xs b ≡ false → count_of b xs ≡ 0
-not_among b [] e = count_of-nil b
-not_among b (x ∷ xs) e =
-    let n = neither (is_same b x) (is_among xs b) e in
-    omega (arith, count_of-cons b x xs, one_if-false b x n.0, not_among b xs n.1)
 
 in_some : (b : Block) (lanes : List Claims) → list_any (keeps b) lanes ≡ true → 1 ≤ count_kept b lanes
 unfolding count_kept
 in_some b [] e = absurd (false≢true e)
 in_some b (s ∷ lanes) e =
     elim (either (keeps b s) (list_any (keeps b) lanes) e) [
-      | inl k ↦ omega (arith, sum_by-cons (count_in b) s lanes, among b s.kept k)
+      | inl k ↦ omega (arith, sum_by-cons (count_in b) s lanes, present b s.kept k)
       | inr r ↦ omega (arith, sum_by-cons (count_in b) s lanes, in_some b lanes r)
     ]
 
@@ -107,8 +51,8 @@ in_none : (b : Block) (lanes : List Claims) → list_any (keeps b) lanes ≡ fal
 unfolding count_kept
 in_none b [] e = refl
 in_none b (s ∷ lanes) e =
-    let n = neither (keeps b s) (list_any (keeps b) lanes) e in
-    omega (arith, sum_by-cons (count_in b) s lanes, not_among b s.kept n.0, in_none b lanes n.1)
+    let n = or_parts (keeps b s) (list_any (keeps b) lanes) e in
+    omega (arith, sum_by-cons (count_in b) s lanes, absent b s.kept n.0, in_none b lanes n.1)
 
 -- ---- the queue
 
@@ -145,3 +89,8 @@ least_planned p (x ∷ xs) b is = least_go p x b xs (p x) (least_planned p xs b)
 pub least_of_queued : (n : ℕ) (planned : List Block) (h : List SendEvent) (b : Block) → least_of (queued n planned h) ≡ Some b → 1 ≤ count_of b planned
 unfolding planned_now
 least_of_queued n planned h b is = least_planned (is_queued (claims_of n h)) planned b is
+
+-- a list without a least block is empty
+pub no_least : (xs : List Block) → least_of xs ≡ None → xs ≡ []
+no_least [] e = refl
+no_least (x ∷ xs) e = cc

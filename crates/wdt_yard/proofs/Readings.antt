@@ -1,47 +1,32 @@
 -- What a journal keeps, as its history says it, and how many blocks go back.
-use Rattle.std.proofs.Common.{◌≡◌, ◌≢◌, ℕ, ◌+◌, ◌≤◌, ◌<◌, ◌^◌, ◌==◌, Bool, true, false, List, [], ◌∷◌, ◌++◌, length, get_or, set, take, drop, map, Option, Some, None, Result, Ok, Err, OnOk, IfOk, IsSome, is_some, if◌then◌else◌, refl, sym, ap, ◌∙◌, subst, inl, inr, arith}
-use Rattle.std.specs.List.{sum_by}
-use Rattle.std.specs.Option.{option_map}
-use Rattle.std.specs.Result.{result_err}
-use Rattle.std.proofs.lemmas.Bool.{eq-eqb, ne_eqb}
+use Rattle.std.proofs.Common.{◌≡◌, ℕ, ◌+◌, ◌≤◌, ◌<◌, ◌==◌, Bool, false, List, [], ◌∷◌, ◌++◌, length, get_or, take, drop, map, Option, Some, None, is_some, if◌then◌else◌, refl, sym, ap, ◌∙◌, arith}
 use Rattle.std.proofs.lemmas.Bool.Decides.{nat_tests}
-use Rattle.std.proofs.lemmas.List.{get_or_read, length-append, length-set, length_push, take-append-drop, set-get_or}
+use Rattle.std.proofs.lemmas.List.{length-append, take-append-drop}
 use Rattle.std.proofs.lemmas.List.Sums.{sum_by-cons, sum_by-set, get_or-le-sum_by}
 use Rattle.wdt_units.specs.declared.blocks.Block.{Block}
-use Rattle.wdt_units.specs.declared.numbers.Conn.{Conn}
-use Rattle.wdt_units.specs.declared.numbers.Lane.{Lane}
-use Rattle.wdt_units.specs.Blocks.{are_rising, count_of, AreDistinct, HaveSameBlocks}
-use Rattle.wdt_units.specs.LaneWords.{Claims, no_claims, claimed, sent, cut_to, closed_at, finished}
-use Rattle.wdt_units.proofs.BlockCounts.{count_of-append, count_of-cons, count_of-nil, count_of-parts, count_of-push, one_if-true, rising_distinct}
-use Rattle.wdt_units.proofs.BlockOrder.{same_itself}
+use Rattle.wdt_units.specs.Blocks.{count_of, AreDistinct}
+use Rattle.wdt_units.specs.LaneWords.{Claims, no_claims, finished}
+use Rattle.wdt_units.proofs.BlockCounts.{count_of-append, count_of-nil, count_of-parts, rising_distinct}
 use Rattle.wdt_queue.specs.Waiting.{Waiting}
-use Rattle.wdt_history.specs.declared.check.CheckFail.{CheckFail}
-use Rattle.wdt_history.specs.Checks.{fault_of, goes_back, back_by}
-use Rattle.wdt_history.specs.Checks as checks
+use Rattle.wdt_history.specs.Checks.{goes_back, back_by}
 use Rattle.wdt_history.specs.Claimed.{count_in, count_kept, lane_at, with_lane}
-use Rattle.wdt_history.specs.Slots.{Book}
-use Rattle.wdt_history.proofs.Keeps.{count_in-le, count_kept-finished, count_kept-with}
+use Rattle.wdt_history.proofs.Turns.{none_of}
+use Rattle.wdt_history.proofs.Keeps.{count_in-le}
 use Rattle.wdt_sender_fsm.specs.declared.events.SendEvent.{SendEvent}
 use Rattle.wdt_sender_fsm.specs.declared.events.SendEvent.TheVariants as events
-use Rattle.wdt_sender_fsm.specs.declared.peers.PeerKind.{PeerKind}
-use Rattle.wdt_sender_fsm.specs.Faults.{count_fault}
-use Rattle.wdt_sender_fsm.specs.Faults as faults
-use Rattle.wdt_sender_fsm.specs.Places.{claims_of, queued}
-use Rattle.wdt_sender_fsm.specs.SenderHistory.{LanePast, no_past, past_from, past_of, past_after, end_of, end_of-more, end_finish_after, claims_after, close_by, EndPast}
+use Rattle.wdt_sender_fsm.specs.Places.{queued}
+use Rattle.wdt_sender_fsm.specs.SenderHistory.{LanePast, no_past, past_from, past_of, past_after}
 use Rattle.wdt_yard.specs.declared.tally.Tally.{Tally}
-use Rattle.wdt_yard.specs.Kept.{IsKept, AreShared, length_of, total_kept}
-use Rattle.wdt_yard.specs.Kinds.{kind_of}
-use Rattle.wdt_yard.specs.Ledger.{is_quiet}
-use Rattle.wdt_yard.specs.Tallies.{tally_of, tallies_of}
-use Rattle.wdt_yard.proofs.Counts.{right_count}
-use Rattle.wdt_yard.proofs.Entries.{claims_at, tally_at, claims_same, tallies_same, finish_same, claims_set, tallies_set, claims_finished, quiet_claims, quiet_tally, quiet_finish}
-use Rattle.wdt_yard.proofs.Queues.{nothing_in, queue_is, rising_rest}
-use Rattle.wdt_yard.proofs.Tabulates.{length-tabulate}
+use Rattle.wdt_yard.specs.Kept.{IsKept, length_of, total_kept}
+use Rattle.wdt_yard.specs.Tallies.{tally_of}
+use Rattle.wdt_yard.proofs.Entries.{tally_at}
+use Rattle.wdt_yard.proofs.Queues.{nothing_in, queue_is}
+use Rattle.wdt_sender_fsm.proofs.Claimed.{claims_at, claims_length}
 
 -- ---- what is read
 
 pub lanes_within : {t : List Tally} {p : List Block} {q : Waiting} {ls : List Claims} {f : Bool} {h : List SendEvent} → IsKept t p q ls f h → length ls ≡ length t
-lanes_within {t} {p} {q} {ls} {f} {h} k = ap length k.claims ∙ length-tabulate (length t) (λ l. (past_of h l).claims)
+lanes_within {t} {p} {q} {ls} {f} {h} k = ap length k.claims ∙ claims_length (length t) h
 
 pub claims_read : {t : List Tally} {p : List Block} {q : Waiting} {ls : List Claims} {f : Bool} {h : List SendEvent} (l : ℕ) → IsKept t p q ls f h → l < length t → lane_at ls l ≡ (past_of h l).claims
 claims_read {t} {p} {q} {ls} {f} {h} l k lt = ap (λ (xs : List Claims). lane_at xs l) k.claims ∙ claims_at (length t) h l lt
@@ -51,10 +36,6 @@ tally_read {t} {p} {q} {ls} {f} {h} l x k lt e = e ∙ ap (λ (xs : List Tally).
 
 pub queue_read : {t : List Tally} {p : List Block} {q : Waiting} {ls : List Claims} {f : Bool} {h : List SendEvent} → IsKept t p q ls f h → q.waiting ≡ queued (length t) p h
 queue_read {t} {p} {q} {ls} {f} {h} k = queue_is (length t) p q.waiting ls h k.claims k.rising k.waiting k.shared
-
-pub none_of : (o : Option ℕ) → is_some o ≡ false → o ≡ None
-none_of None e = refl
-none_of (Some n) e = cc
 
 -- a lane that isn't closed
 pub still_open : {t : List Tally} {p : List Block} {q : Waiting} {ls : List Claims} {f : Bool} {h : List SendEvent} (l : ℕ) → IsKept t p q ls f h → l < length t → is_some (past_of h l).claims.closed ≡ false → (lane_at ls l).closed ≡ None

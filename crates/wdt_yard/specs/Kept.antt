@@ -1,12 +1,11 @@
 -- What a journal keeps beside its history, and that the history says the same.
-use Rattle.std.specs.Prelude.{◌≡◌, ℕ, ◌+◌, ◌-◌, ◌≤◌, Bool, true, List, length, sum_by, option_map, vec_items, vec_len, vec_capacity}
+use Rattle.std.specs.Prelude.{◌≡◌, ℕ, ◌-◌, ◌≤◌, Bool, true, List, length, sum_by, option_map, vec_items, vec_len, vec_capacity}
 use Rattle.wdt_units.specs.declared.blocks.Block.{Block}
-use Rattle.wdt_units.specs.Blocks.{are_rising, count_of}
+use Rattle.wdt_units.specs.Blocks.{are_rising}
 use Rattle.wdt_units.specs.LaneWords.{Claims}
 use Rattle.wdt_queue.specs.Waiting.{Waiting}
-use Rattle.wdt_history.specs.Claimed.{count_kept}
 use Rattle.wdt_sender_fsm.specs.declared.events.SendEvent.{SendEvent}
-use Rattle.wdt_sender_fsm.specs.Places.{claims_of}
+use Rattle.wdt_sender_fsm.specs.Places.{AreShared, claims_of}
 use Rattle.wdt_sender_fsm.specs.PlainSender.{listed_blocks}
 use Rattle.wdt_sender_fsm.specs.SenderHistory.{end_of}
 use Rattle.wdt_yard.specs.declared.journal.Journal.TheInside.{Inside}
@@ -30,10 +29,6 @@ length_of claims = length claims.kept
 -- how many blocks stand in the lists of the lanes
 abbrev pub total_kept : List Claims → ℕ
 total_kept lanes = sum_by length_of lanes
-
--- each planned block waits or stands in one lane's list
-abbrev pub AreShared : List Block → List Block → List Claims → Type 0
-AreShared planned waiting lanes = (block : Block) → count_of block waiting + count_kept block lanes ≡ count_of block planned
 
 -- what is kept is what the history says, and what waits is the rest of the plan
 pub record IsKept (tallies : List Tally) (planned : List Block) (queue : Waiting) (lanes : List Claims) (finish : Bool) (h : List SendEvent) : Type 0 where

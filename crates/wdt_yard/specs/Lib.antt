@@ -1,5 +1,6 @@
 pub mod End
 pub mod EndInside
+pub mod Inside
 pub mod Kept
 pub mod Kinds
 pub mod Ledger

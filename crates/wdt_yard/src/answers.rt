@@ -1,7 +1,7 @@
 //! How an end's answer follows from its lanes.
 ghost use Rattle.std.specs.Prelude.{◌≡◌, ◌<◌, ◌&&◌, length};
 ghost use Rattle.wdt_sender_fsm.specs.PlainSender.{is_ended};
-ghost use Rattle.wdt_sender_fsm.specs.Rules.{code_of, every, is_failure, judged, standing, starved};
+ghost use Rattle.wdt_sender_fsm.specs.Rules.{every, judged};
 ghost use Rattle.wdt_sender_fsm.specs.SenderHistory.{end_of};
 ghost use Rattle.wdt_yard.specs.End.{is_done_in, is_out_in};
 
@@ -9,60 +9,14 @@ use crate::journal::Journal;
 use wdt_sender_fsm::{EndAnswer, SendLane, SendState};
 use wdt_units::Lane;
 
-/// Whether the answer is a failure.
-pub fn is_failure(answer: &EndAnswer) -> bool
-    ensures { result ≡ is_failure answer.now }
-{
-    !matches!(answer, EndAnswer::Going | EndAnswer::Done | EndAnswer::Link)
-}
-
-/// The code by which a failed end tells the other.
-pub fn code_of(answer: &EndAnswer) -> u8
-    ensures { result ≡ code_of answer.now }
-{
-    match answer {
-        EndAnswer::Going | EndAnswer::Done => 0,
-        EndAnswer::Source => 2,
-        EndAnswer::Disk => 3,
-        EndAnswer::Link => 4,
-        EndAnswer::Peer(_) => 5,
-        EndAnswer::Aborted(code) => *code,
-        EndAnswer::Refused(_) => 7,
-        EndAnswer::NoMemory => 10,
-    }
-}
-
-/// Memory ran out: that is the answer, unless there was one before.
-pub fn starved(answer: &mut EndAnswer)
-    ensures { answer.new ≡ starved answer.old }
-{
-    if matches!(answer, EndAnswer::Going) {
-        *answer = EndAnswer::NoMemory;
-    }
-}
-
 /// The answer behind a step: a failure stays, and else it follows from the lanes.
 pub fn settle(answer: &mut EndAnswer, lanes: &[SendLane], journal: &Journal)
     requires { length lanes.now ≡ journal.now.lanes }
     ensures { answer.new ≡ judged answer.old ((end_of journal.now.history).has_finish && every journal.now.lanes (is_done_in journal.now.history)) (every journal.now.lanes (is_out_in journal.now.history lanes.now)) }
 {
-    if !is_failure(answer) {
-        *answer = standing(lanes, journal);
-    }
-}
-
-// The answer of an end that hasn't failed.
-fn standing(lanes: &[SendLane], journal: &Journal) -> EndAnswer
-    requires { length lanes.now ≡ journal.now.lanes }
-    ensures { result ≡ standing ((end_of journal.now.history).has_finish && every journal.now.lanes (is_done_in journal.now.history)) (every journal.now.lanes (is_out_in journal.now.history lanes.now)) }
-{
     let is_done = journal.has_finish() && are_done(journal);
     let is_over = are_out(lanes, journal);
-    match (is_done, is_over) {
-        (true, _) => EndAnswer::Done,
-        (false, true) => EndAnswer::Link,
-        (false, false) => EndAnswer::Going,
-    }
+    answer.judge(is_done, is_over);
 }
 
 // Whether each lane is acknowledged or closed.

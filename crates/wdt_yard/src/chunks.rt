@@ -4,11 +4,10 @@ ghost use Rattle.wdt_units.specs.Have.{HaveFile};
 ghost use Rattle.wdt_sender_fsm.specs.Chunks.{different_at, refusal, unordered_at};
 ghost use Rattle.wdt_sender_fsm.specs.Turn.{listed, listed_again, planned_by};
 
-use crate::comparing::{different_at, unordered_at};
 use crate::end::SendEnd;
 use crate::planning::{plan_for, queue_of};
 use wdt_ranges::Have;
-use wdt_sender_fsm::{EndAnswer, PeerKind, SendAct, SendEvent};
+use wdt_sender_fsm::{EndAnswer, PeerKind, SendAct, SendEvent, different_at, unordered_at};
 use wdt_units::{Lane, NoMemory};
 
 impl SendEnd {

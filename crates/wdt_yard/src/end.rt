@@ -1,15 +1,13 @@
 //! A sender's end, with room for what a step notes.
-ghost use Rattle.std.specs.Prelude.{◌≡◌, ◌<◌, ◌≤◌, length, replicate, is_some, option_map, Some, None, IfOk, OnOk, IsTrue};
+ghost use Rattle.std.specs.Prelude.{◌≡◌, ◌↔◌, ◌<◌, ◌≤◌, length, replicate, is_some, option_map, Some, None, IfOk, OnOk, IsTrue};
 ghost use Rattle.std.specs.Result.{result_err};
-ghost use Rattle.wdt_history.specs.Places.{place_of};
 ghost use Rattle.wdt_sender_fsm.specs.Faults.{count_fault};
-ghost use Rattle.wdt_sender_fsm.specs.Places.{claims_of};
-ghost use Rattle.wdt_sender_fsm.specs.PlainSender.{lane_at, past_at, state_at, is_closed, least_queued, new_lane, opened, unfinished_blocks, with_lane, goes, failed};
+ghost use Rattle.wdt_sender_fsm.specs.PlainSender.{block_place, lane_at, past_at, state_at, is_closed, least_queued, new_lane, opened, unfinished_blocks, with_lane, goes, failed};
 ghost use Rattle.wdt_sender_fsm.specs.Rules.{is_failure, starved};
 ghost use Rattle.wdt_sender_fsm.specs.Turn.{is_used_up};
 ghost use Rattle.wdt_sender_fsm.specs.declared.states.SendState.TheVariants as states;
 
-use crate::answers::{is_failure, settle, starved};
+use crate::answers::settle;
 use crate::journal::{Journal, STEP_ENTRIES};
 use std::alloc::Global;
 use std::marker::Model;
@@ -130,7 +128,7 @@ impl SendEnd {
 
     /// Whether no block waits.
     pub fn is_empty(&self) -> bool
-        ensures { IsTrue result → least_queued self.now.plain ≡ None }
+        ensures { IsTrue result ↔ (least_queued self.now.plain ≡ None) }
     {
         self.journal.is_empty()
     }
@@ -153,7 +151,7 @@ impl SendEnd {
     pub fn has_failed(&self) -> bool
         ensures { result ≡ is_failure self.now.plain.answer }
     {
-        is_failure(&self.answer)
+        self.answer.is_failure()
     }
 
     /// All that happened, in order.
@@ -172,7 +170,7 @@ impl SendEnd {
 
     /// Where a block stands.
     pub fn place(&self, block: Block) -> Place
-        ensures { result ≡ place_of block (claims_of (length self.now.plain.lanes) self.now.plain.history) }
+        ensures { result ≡ block_place self.now.plain block }
     {
         self.journal.place(block)
     }
@@ -223,7 +221,7 @@ impl SendEnd {
     pub fn starve(&mut self)
         ensures { self.new ≡ record self.old { plain = failed self.old.plain (starved self.old.plain.answer) } }
     {
-        starved(&mut self.answer);
+        self.answer.starve();
     }
 }
 

@@ -5,7 +5,6 @@ ghost use Rattle.wdt_sender_fsm.specs.Rules.{by_voice};
 ghost use Rattle.wdt_sender_fsm.specs.Turn.{leaves, tells_failure};
 ghost use Rattle.wdt_sender_fsm.specs.declared.answers.EndAnswer.TheVariants as answers;
 
-use crate::answers::code_of;
 use crate::end::SendEnd;
 use wdt_codec::Frame;
 use wdt_sender_fsm::{EndAnswer, PeerKind, SendAct, SendEvent, SendState};
@@ -26,7 +25,7 @@ impl SendEnd {
         requires { lane.0 < length self.old.plain.lanes }
         ensures { tells_failure self.old.plain lane ≡ (result, self.new.plain) }
     {
-        let code = code_of(&self.answer);
+        let code = self.answer.code();
         self.go(lane, SendState::SendAbort);
         SendAct::Write(Frame::Abort(code))
     }

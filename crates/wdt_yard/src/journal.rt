@@ -3,7 +3,7 @@ ghost use Rattle.std.specs.Prelude.{◌≡◌, ◌↔◌, ◌<◌, ◌≤◌, []
 ghost use Rattle.std.specs.Result.{result_err};
 ghost use Rattle.wdt_history.specs.Places.{place_of};
 ghost use Rattle.wdt_sender_fsm.specs.Faults.{count_fault};
-ghost use Rattle.wdt_sender_fsm.specs.Places.{claims_of, queued, unfinished};
+ghost use Rattle.wdt_sender_fsm.specs.Places.{claims_of, least_of, queued, unfinished};
 ghost use Rattle.wdt_sender_fsm.specs.PlainSender.{listed_blocks};
 ghost use Rattle.wdt_sender_fsm.specs.SenderHistory.{past_of, end_of};
 ghost use Rattle.wdt_sender_fsm.specs.Turn.{is_used_up};
@@ -159,7 +159,7 @@ impl Journal {
 
     /// Whether no block waits.
     pub fn is_empty(&self) -> bool
-        ensures { IsTrue result ↔ (queued self.now.lanes (listed_blocks self.now.planned) self.now.history ≡ []) }
+        ensures { IsTrue result ↔ (least_of (queued self.now.lanes (listed_blocks self.now.planned) self.now.history) ≡ None) }
     {
         self.queue.is_empty()
     }

@@ -15,7 +15,6 @@ mod answers;
 mod blocks;
 mod chunks;
 mod closing;
-mod comparing;
 mod connecting;
 mod end;
 mod failing;
@@ -34,6 +33,6 @@ mod yard;
 pub use yard::Yard;
 
 #[cfg(test)]
-mod fixtures;
+mod testing;
 #[cfg(test)]
 mod tests;

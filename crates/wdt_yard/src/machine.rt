@@ -8,7 +8,7 @@ ghost use Rattle.wdt_yard.specs.Turns.{IsLegalOfSome, IsTurn, count_of};
 
 use crate::yard::Yard;
 use wdt_sender_fsm::{
-    EndAnswer, SendAct, SendEvent, SendIn, SendLane, steps_answer_rightly, steps_touch_their_lane,
+    SendAct, SendEvent, SendIn, SendLane, steps_answer_rightly, steps_touch_their_lane,
 };
 use wdt_units::{Lane, Machine};
 
@@ -45,11 +45,7 @@ impl Machine for Yard {
     }
 
     fn count(&self) -> u64 {
-        let failed = !matches!(
-            self.answer(),
-            EndAnswer::Going | EndAnswer::Done | EndAnswer::Link
-        );
-        self.history().len() as u64 + u64::from(failed)
+        self.history().len() as u64 + u64::from(self.answer().is_failure())
     }
 
     ghost one_loose = { λ h legal. few_loose lane_of h };

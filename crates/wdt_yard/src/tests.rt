@@ -1,5 +1,5 @@
 //! What no clause says: worked steps of whole ends, and that each call succeeds where there is memory.
-use crate::fixtures::{open, run, step};
+use crate::testing::{open, run, step};
 use std::test::Fail;
 use wdt_codec::Frame;
 use wdt_history::Place;

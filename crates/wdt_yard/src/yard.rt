@@ -1,11 +1,18 @@
 //! The yard: a sender's end as its lanes share it.
-ghost use Rattle.std.specs.Prelude.{◌≡◌, ◌<◌, ◌≤◌, length, replicate, option_map, is_some, false, OnErr, IfOk, IfErr};
-ghost use Rattle.wdt_history.specs.Places.{place_of};
-ghost use Rattle.wdt_sender_fsm.specs.Places.{claims_of};
-ghost use Rattle.wdt_sender_fsm.specs.PlainSender.{new_lane, opened, state_at};
+ghost use Rattle.std.specs.Prelude.{◌≡◌, ◌↔◌, ◌<◌, ◌≤◌, ℕ, length, replicate, option_map, is_some, true, false, OnErr, IfOk, IfErr};
+ghost use Rattle.std.specs.List.{Contains};
+ghost use Rattle.wdt_units.specs.declared.blocks.Block.{Block as PlainBlock};
+ghost use Rattle.wdt_units.specs.declared.numbers.Lane.{Lane as PlainLane};
+ghost use Rattle.wdt_history.specs.declared.place.Place.TheVariants.{Confirmed};
+ghost use Rattle.wdt_sender_fsm.specs.declared.answers.EndAnswer.TheVariants as answers;
+ghost use Rattle.wdt_sender_fsm.specs.declared.peers.PeerKind.{PeerKind};
+ghost use Rattle.wdt_sender_fsm.specs.Causes.{Follows, HasNoLane, RefusesRightly, has_all_done};
+ghost use Rattle.wdt_sender_fsm.specs.PlainSender.{HasPlaces, block_place, new_lane, opened, state_at};
 ghost use Rattle.wdt_sender_fsm.specs.Rows.{row_of};
 ghost use Rattle.wdt_sender_fsm.specs.Sender.{FitsIn, IsSender};
+ghost use Rattle.wdt_sender_fsm.specs.Rules.{is_failure};
 ghost use Rattle.wdt_sender_fsm.specs.SenderHistory.{end_of};
+ghost use Rattle.wdt_sender_fsm.specs.Stops.{is_stop, is_through, stops};
 ghost use Rattle.wdt_sender_fsm.specs.Turn.{send_turn};
 ghost use Rattle.wdt_yard.specs.Turns.{takes_no_memory};
 
@@ -14,7 +21,8 @@ use std::alloc::Global;
 use std::marker::Model;
 use wdt_history::Place;
 use wdt_sender_fsm::{
-    EndAnswer, SendAct, SendEvent, SendIn, SendState, senders_stay_senders, steps_touch_their_lane,
+    EndAnswer, SendAct, SendEvent, SendIn, SendState, answers_have_their_causes,
+    blocks_keep_their_places, senders_stay_senders, steps_answer_rightly, steps_touch_their_lane,
 };
 use wdt_tree::Manifest;
 use wdt_units::{Block, Lane, NoMemory};
@@ -30,11 +38,11 @@ impl Model for Yard {
 
     ghost Value = { PlainSender };
 
-    ghost use Rattle.wdt_sender_fsm.specs.Sender.{IsSender};
+    ghost use Rattle.wdt_yard.specs.Inside.{IsYard};
 
     ghost view = { λ y. y.end.plain };
 
-    ghost invariant = { λ y. IsSender y.end.plain };
+    ghost invariant = { λ y. IsYard y.end.plain };
 }
 
 impl Yard {
@@ -63,6 +71,10 @@ impl Yard {
     /// sender behind it are the definition's. `Err` is want of memory: it hands the input back, and
     /// nothing has changed. A step that notes nothing takes no memory, so `Starved` is never handed
     /// back.
+    ///
+    /// The act is Stop exactly where `stops` says so; a failed end keeps its answer and notes nothing
+    /// more, and a new failure has its cause, a refusal of the tree exactly where it has; the history
+    /// stays legal, each block of the plan has one place, and a confirmed block stays confirmed.
     pub fn step(&mut self, lane: Lane, put: SendIn) -> Result<SendAct, SendIn>
         requires lane { lane.0 < length self.old.lanes }
         requires fits { FitsIn put }
@@ -70,12 +82,20 @@ impl Yard {
         ensures err { IfErr result (λ back. (back ≡ put) × (self.new ≡ self.old)) }
         ensures free { OnErr result (takes_no_memory self.old lane.0 (row_of (state_at self.old lane.0) put) ≡ false) }
         ensures lanes { length self.new.lanes ≡ length self.old.lanes }
+        ensures stops { IfOk result (λ act. is_stop act ≡ stops (state_at self.old lane.0) put (is_through self.new lane.0) (is_failure self.new.answer)) }
+        ensures follows { IfOk result (λ _. Follows self.old lane put self.new) }
+        ensures refused { IfOk result (λ _. RefusesRightly self.old lane put self.new) }
+        ensures confirmed { (block : PlainBlock) → block_place self.old block ≡ Confirmed → block_place self.new block ≡ Confirmed }
+        ensures places { HasPlaces self.new }
         ensures was { IsSender self.old }
         ensures lawful { IsSender self.new }
     {
-        // The laws: the end stays a sender's, and has as many lanes as before.
+        // The laws: the end stays a sender's and has as many lanes as before, and why a step answers so.
         senders_stay_senders();
         steps_touch_their_lane();
+        steps_answer_rightly();
+        answers_have_their_causes();
+        blocks_keep_their_places();
         match self.end.turn(lane, &put) {
             Ok(act) => Ok(act),
             Err(NoMemory) => Err(put),
@@ -90,10 +110,18 @@ impl Yard {
         self.end.history()
     }
 
-    /// How the end fares.
+    /// How the end fares: done exactly where a lane read the receiver's last word and each is
+    /// acknowledged or closed, without a lane exactly where that isn't so and each has ended or is
+    /// closed, and failed by the receiver exactly where the history says so.
     pub fn answer(&self) -> &EndAnswer
-        ensures { result.now ≡ self.now.answer }
+        ensures value { result.now ≡ self.now.answer }
+        ensures done { (self.now.answer ≡ answers.Done) ↔ (has_all_done self.now ≡ true) }
+        ensures link { (self.now.answer ≡ answers.Link) ↔ HasNoLane self.now }
+        ensures peer { (kind : PeerKind) → (self.now.answer ≡ answers.Peer kind) ↔ ((l : PlainLane) × Contains self.now.history (SendEvent.Peer l kind)) }
+        ensures aborted { (code : ℕ) → (self.now.answer ≡ answers.Aborted code) ↔ ((l : PlainLane) × Contains self.now.history (SendEvent.Abort l code)) }
     {
+        // The law: why an end has its answer.
+        answers_have_their_causes();
         self.end.answer()
     }
 
@@ -107,7 +135,7 @@ impl Yard {
 
     /// Where a block stands.
     pub fn place(&self, block: Block) -> Place
-        ensures { result ≡ place_of block (claims_of (length self.now.lanes) self.now.history) }
+        ensures { result ≡ block_place self.now block }
     {
         self.end.place(block)
     }

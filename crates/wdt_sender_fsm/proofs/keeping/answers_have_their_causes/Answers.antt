@@ -1,5 +1,6 @@
 use Rattle.wdt_sender_fsm.proofs.Noted.{abort_noted, noted_abort, noted_peer, peer_noted}
 use Rattle.wdt_sender_fsm.proofs.Outcomes.{done_means, link_means, means_done, means_link, refuses}
+use Rattle.wdt_sender_fsm.proofs.Refusing.{refuses_rightly}
 use Rattle.wdt_sender_fsm.proofs.keeping.answers_have_their_causes.Goals as goal
 
 pub returns-clause-done : goal.returns-clause-done
@@ -7,6 +8,9 @@ returns-clause-done c = λ s is. (done_means s is, means_done s is)
 
 pub returns-clause-link : goal.returns-clause-link
 returns-clause-link c = λ s is. (link_means s is, means_link s is)
+
+pub returns-clause-exactly : goal.returns-clause-exactly
+returns-clause-exactly c = refuses_rightly
 
 pub returns-clause-refused : goal.returns-clause-refused
 returns-clause-refused c = refuses

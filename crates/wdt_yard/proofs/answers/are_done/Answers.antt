@@ -1,4 +1,4 @@
-use Rattle.std.proofs.Common.{◌≡◌, ℕ, ◌+◌, ◌<◌, Bool, true, false, List, length, Option, Some, None, sym, ap, ◌∙◌, subst, refl, is_some, arith}
+use Rattle.std.proofs.Common.{sym, ◌∙◌, arith}
 use Rattle.wdt_yard.specs.End.{is_done_in}
 use Rattle.wdt_yard.proofs.Ends.{every_false}
 use Rattle.wdt_yard.proofs.answers.are_done.Goals as goal

@@ -1,4 +1,4 @@
-use Rattle.std.proofs.Common.{◌≡◌, Option, ℕ, is_some, ap, ◌∙◌}
+use Rattle.std.proofs.Common.{Option, ℕ, is_some, ap, ◌∙◌}
 use Rattle.wdt_sender_fsm.specs.PlainSender.{PlainSender, is_closed}
 use Rattle.wdt_yard.specs.End.{EndView}
 use Rattle.wdt_yard.proofs.Ends.{closed_sent}

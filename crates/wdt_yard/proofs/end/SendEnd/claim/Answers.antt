@@ -1,4 +1,4 @@
-use Rattle.std.proofs.Common.{◌<◌, Option, length, ap, subst, IfSome}
+use Rattle.std.proofs.Common.{◌<◌, length, subst, IfSome}
 use Rattle.wdt_units.specs.declared.blocks.Block.{Block}
 use Rattle.wdt_sender_fsm.specs.PlainSender.{listed_blocks}
 use Rattle.wdt_yard.specs.End.{EndView}

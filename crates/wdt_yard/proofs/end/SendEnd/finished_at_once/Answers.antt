@@ -1,6 +1,4 @@
-use Rattle.std.proofs.Common.{◌≡◌, Result, IfOk, true, is_some, refl, sym, ap, ◌∙◌}
-use Rattle.wdt_units.specs.declared.failures.NoMemory.{NoMemory}
-use Rattle.wdt_sender_fsm.specs.declared.acts.SendAct.{SendAct}
+use Rattle.std.proofs.Common.{refl, sym, ap, ◌∙◌}
 use Rattle.wdt_sender_fsm.specs.Rows.{DoneAtOnce}
 use Rattle.wdt_sender_fsm.specs.Turn.{finished_at_once}
 use Rattle.wdt_yard.proofs.Results.{if_ok}

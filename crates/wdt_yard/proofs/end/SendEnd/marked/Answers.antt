@@ -1,4 +1,4 @@
-use Rattle.std.proofs.Common.{◌≡◌, length, is_some, sym, ap, ◌∙◌}
+use Rattle.std.proofs.Common.{length, is_some, sym, ap, ◌∙◌}
 use Rattle.wdt_units.specs.LaneWords.{Claims}
 use Rattle.wdt_sender_fsm.specs.PlainSender.{PlainSender, is_closed}
 use Rattle.wdt_yard.proofs.Marks.{reader_still}

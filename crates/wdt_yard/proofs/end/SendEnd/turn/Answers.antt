@@ -1,7 +1,7 @@
-use Rattle.std.proofs.Common.{◌≡◌, sym, ap, ◌∙◌}
+use Rattle.std.proofs.Common.{sym, ap, ◌∙◌}
 use Rattle.wdt_sender_fsm.specs.declared.states.SendState.{SendState}
 use Rattle.wdt_sender_fsm.specs.Rows.{row_of}
-use Rattle.wdt_sender_fsm.specs.Turn.{ruled, send_turn, turned}
+use Rattle.wdt_sender_fsm.specs.Turn.{send_turn, turned}
 use Rattle.wdt_yard.specs.Turns.{takes_no_memory}
 use Rattle.wdt_yard.proofs.Results.{if_ok, on_err}
 use Rattle.wdt_yard.proofs.Steps.{unstarved}

@@ -1,7 +1,5 @@
-use Rattle.std.proofs.Common.{◌≡◌, ℕ, ◌+◌, ◌<◌, Bool, true, false, List, length, Option, Some, None, sym, ap, ◌∙◌, subst, refl, is_some, arith}
-use Rattle.wdt_units.specs.LaneWords.{Claims}
+use Rattle.std.proofs.Common.{◌≡◌, ◌<◌, length, None, sym, subst, arith}
 use Rattle.wdt_sender_fsm.specs.SenderHistory.{past_of}
-use Rattle.wdt_yard.specs.declared.tally.Tally.{Tally}
 use Rattle.wdt_yard.specs.Ledger.{Ledger}
 use Rattle.wdt_sender_fsm.specs.Faults.{count_fault}
 use Rattle.wdt_yard.proofs.Keeps.{closing_keeps}

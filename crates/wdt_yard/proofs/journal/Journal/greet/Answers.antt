@@ -1,9 +1,7 @@
-use Rattle.std.proofs.Common.{◌≡◌, ℕ, ◌+◌, ◌<◌, Bool, true, false, List, length, Option, Some, None, sym, ap, ◌∙◌, subst, refl, is_some, arith}
+use Rattle.std.proofs.Common.{◌≡◌, ℕ, ◌+◌, ◌<◌, false, List, length, Some, sym, ap, ◌∙◌, subst, is_some, arith}
 use Rattle.wdt_units.specs.LaneWords.{Claims}
 use Rattle.wdt_sender_fsm.specs.SenderHistory.{past_of}
-use Rattle.wdt_yard.specs.declared.tally.Tally.{Tally}
 use Rattle.wdt_yard.specs.Ledger.{Ledger}
-use Rattle.wdt_units.specs.declared.blocks.Block.{Block}
 use Rattle.wdt_units.specs.Blocks.{count_of}
 use Rattle.wdt_units.specs.LaneWords.{cut_to}
 use Rattle.std.specs.Option.{option_map}

@@ -1,12 +1,8 @@
-use Rattle.std.proofs.Common.{◌≡◌, ℕ, ◌+◌, ◌<◌, Bool, true, false, List, length, Option, Some, None, sym, ap, ◌∙◌, subst, refl, is_some, arith}
-use Rattle.wdt_units.specs.LaneWords.{Claims}
-use Rattle.wdt_sender_fsm.specs.SenderHistory.{past_of}
-use Rattle.wdt_yard.specs.declared.tally.Tally.{Tally}
+use Rattle.std.proofs.Common.{◌≡◌, sym, ap, ◌∙◌}
 use Rattle.wdt_yard.specs.Ledger.{Ledger}
-use Rattle.std.specs.Prelude.{[], IsTrue}
-use Rattle.wdt_units.specs.declared.blocks.Block.{Block}
-use Rattle.wdt_sender_fsm.specs.Places.{queued}
+use Rattle.wdt_sender_fsm.specs.Places.{least_of, queued}
 use Rattle.wdt_sender_fsm.specs.PlainSender.{listed_blocks}
+use Rattle.wdt_yard.proofs.Queues.{no_least}
 use Rattle.wdt_yard.proofs.Readings.{queue_read}
 use Rattle.wdt_yard.proofs.journal.Journal.is_empty.Goals as goal
 
@@ -14,4 +10,4 @@ waits : (c : goal.After-is_empty) → c.self.inside.queue.waiting ≡ queued c.a
 waits c = queue_read c.self.invariant ∙ ap (λ (j : Ledger). queued j.lanes (listed_blocks j.planned) j.history) c.self.view_is
 
 pub returns : goal.returns
-returns c = (λ yes. sym (waits c) ∙ c.is_empty.ensures.0 yes, λ none. c.is_empty.ensures.1 (waits c ∙ none))
+returns c = (λ yes. ap least_of (sym (waits c) ∙ c.is_empty.ensures.0 yes), λ none. c.is_empty.ensures.1 (waits c ∙ no_least _ none))

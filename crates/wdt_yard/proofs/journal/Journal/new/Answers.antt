@@ -1,15 +1,10 @@
-use Rattle.std.proofs.Common.{◌≡◌, ℕ, ◌+◌, ◌<◌, Bool, true, false, List, length, Option, Some, None, sym, ap, ◌∙◌, subst, refl, is_some, arith}
-use Rattle.wdt_units.specs.LaneWords.{Claims}
-use Rattle.wdt_sender_fsm.specs.SenderHistory.{past_of}
+use Rattle.std.proofs.Common.{false, List, length, sym, ap, ◌∙◌, subst, refl}
 use Rattle.wdt_yard.specs.declared.tally.Tally.{Tally}
-use Rattle.wdt_yard.specs.Ledger.{Ledger}
-use Rattle.std.specs.Prelude.{[], get_or}
-use Rattle.wdt_units.specs.declared.blocks.Block.{Block}
+use Rattle.std.specs.Prelude.{[]}
 use Rattle.wdt_units.specs.Blocks.{AreDistinct, count_of}
-use Rattle.wdt_units.proofs.BlockCounts.{count_of-nil, rising_distinct}
+use Rattle.wdt_units.proofs.BlockCounts.{rising_distinct}
 use Rattle.wdt_history.specs.Slots.{Book}
 use Rattle.wdt_sender_fsm.specs.declared.events.SendEvent.{SendEvent}
-use Rattle.wdt_sender_fsm.specs.SenderHistory.{end_of-none, EndPast}
 use Rattle.wdt_yard.specs.Kept.{IsKept}
 use Rattle.wdt_yard.specs.Tallies.{no_tally}
 use Rattle.wdt_yard.proofs.Starts.{starts_kept}

@@ -1,9 +1,6 @@
-use Rattle.std.proofs.Common.{◌≡◌, ℕ, ◌+◌, ◌<◌, Bool, true, false, List, length, Option, Some, None, sym, ap, ◌∙◌, subst, refl, is_some, arith}
-use Rattle.wdt_units.specs.LaneWords.{Claims}
-use Rattle.wdt_sender_fsm.specs.SenderHistory.{past_of}
-use Rattle.wdt_yard.specs.declared.tally.Tally.{Tally}
+use Rattle.std.proofs.Common.{◌≡◌, List, Option, None, ap, ◌∙◌, subst}
 use Rattle.wdt_yard.specs.Ledger.{Ledger}
-use Rattle.std.specs.Prelude.{[], vec_items}
+use Rattle.std.specs.Prelude.{vec_items}
 use Rattle.std.specs.Option.{option_map}
 use Rattle.wdt_units.specs.declared.blocks.Block.{Block}
 use Rattle.wdt_sender_fsm.specs.PlainSender.{listed_blocks}

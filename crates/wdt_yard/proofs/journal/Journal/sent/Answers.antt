@@ -1,7 +1,4 @@
-use Rattle.std.proofs.Common.{◌≡◌, ℕ, ◌<◌, length, sym, ap, ◌∙◌, subst, is_some, arith}
-use Rattle.wdt_units.specs.LaneWords.{Claims}
-use Rattle.wdt_sender_fsm.specs.SenderHistory.{past_of}
-use Rattle.wdt_yard.specs.declared.tally.Tally.{Tally}
+use Rattle.std.proofs.Common.{◌<◌, length, sym, subst, arith}
 use Rattle.wdt_yard.specs.Ledger.{Ledger}
 use Rattle.wdt_yard.proofs.Keeps.{sent_keeps}
 use Rattle.wdt_yard.proofs.Readings.{lanes_within}

@@ -1,4 +1,3 @@
-use Rattle.std.proofs.Common.{ap}
 use Rattle.wdt_yard.proofs.Results.{if_ok}
 use Rattle.wdt_yard.proofs.Machines.{legal_of_some, turned_so}
 use Rattle.wdt_yard.proofs.machine.YardMachine.turn.Goals as goal

@@ -8,7 +8,7 @@ pub returns-clause-listed : goal.returns-clause-listed
 returns-clause-listed c =
     sym (some_mapped _ c.planned.result)
     ∙ ap (λ o. is_some o) c.planned.ensures
-    ∙ ap (λ o. is_some o) c.self.invariant.plan.planned
+    ∙ ap (λ o. is_some o) c.self.invariant.sender.plan.planned
     ∙ some_mapped _ c.self.inside.end.plain.have
-    ∙ c.self.invariant.plan.listed
+    ∙ c.self.invariant.sender.plan.listed
     ∙ ap (λ (s : PlainSender). (end_of s.history).is_listed) c.self.view_is

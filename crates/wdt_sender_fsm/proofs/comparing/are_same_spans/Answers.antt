@@ -1,8 +1,8 @@
-use Rattle.std.proofs.Common.{◌≡◌, ◌<◌, ◌≤◌, length, map, sym, ◌∙◌, arith}
+use Rattle.std.proofs.Common.{map, sym, ◌∙◌, arith}
 use Rattle.std.proofs.lemmas.List.{length-map}
 use Rattle.wdt_ranges.specs.Spans.{plain_span}
-use Rattle.wdt_yard.proofs.Compares.{same_spans_at, spans_end, spans_here, spans_on, spans_unlike}
-use Rattle.wdt_yard.proofs.comparing.are_same_spans.Goals as goal
+use Rattle.wdt_sender_fsm.proofs.Compares.{same_spans_at, spans_end, spans_here, spans_on, spans_unlike}
+use Rattle.wdt_sender_fsm.proofs.comparing.are_same_spans.Goals as goal
 
 pub returns-then-first-later : goal.returns-then-first-later
 returns-then-first-later c =

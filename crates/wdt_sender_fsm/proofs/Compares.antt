@@ -1,15 +1,12 @@
 -- What is told of a destination, compared place by place.
-use Rattle.std.proofs.Common.{◌≡◌, ◌≢◌, ℕ, zero, suc, ◌+◌, ◌-◌, ◌<◌, ◌≤◌, Bool, true, false, ◌&&◌, List, [], ◌∷◌, length, get_or, drop, map, Option, Some, None, if◌then◌else◌, refl, sym, ap, ◌∙◌, subst, inl, inr, arith}
-use Rattle.std.proofs.lemmas.Bool.{false≢true}
+use Rattle.std.proofs.Common.{◌≡◌, ◌≢◌, ℕ, ◌+◌, ◌-◌, ◌<◌, ◌≤◌, Bool, true, false, ◌&&◌, List, [], ◌∷◌, length, get_or, drop, map, Option, Some, None, if◌then◌else◌, refl, sym, ap, ◌∙◌, arith}
 use Rattle.std.proofs.lemmas.List.{drop_more, drop_all, get_or-map, length-drop}
 use Rattle.wdt_units.specs.Have.{PlainSpan, HaveFile}
-use Rattle.wdt_units.specs.Tree.{is_before}
 use Rattle.wdt_ranges.specs.declared.have.FileHave.{FileHave}
 use Rattle.wdt_ranges.specs.declared.ranges.Span.{Span}
-use Rattle.wdt_ranges.specs.Files.{have_file, is_before_file, is_in_order}
+use Rattle.wdt_ranges.specs.Files.{have_file, is_before_file}
 use Rattle.wdt_ranges.specs.Spans.{plain_span}
-use Rattle.wdt_ranges.proofs.InOrder.{in_order_from}
-use Rattle.wdt_sender_fsm.specs.Chunks.{are_same_spans, different_at, different_from, is_same_file, is_same_span, unordered_at, unordered_from}
+use Rattle.wdt_sender_fsm.specs.Chunks.{are_same_spans, different_from, is_same_file, is_same_span, unordered_at, unordered_from}
 
 -- ---- the order
 
@@ -59,22 +56,6 @@ short at (x ∷ y ∷ ys) few = absurd (omega (arith, few))
 
 pub ordered_all : (files : List HaveFile) (at : ℕ) → IsOrderedTo files at → length files ≤ at → None ≡ unordered_at files
 ordered_all files at to all = sym (to.rest ∙ short at (drop (at - 1) files) (omega (arith, length-drop (at - 1) files, to.some)))
-
--- ---- a list without such a place is in order
-
-none_then : (b : Bool) (at : ℕ) (rest : Option ℕ) → (if b then rest else Some at) ≡ None → (b ≡ true) × (rest ≡ None)
-none_then true at rest e = (refl, e)
-none_then false at rest e = cc
-
-rises_from : (at : ℕ) (file : HaveFile) (files : List HaveFile) → unordered_from at file.path files ≡ None → (k : ℕ) (d : HaveFile) → suc k < length (file ∷ files) → is_before_file (get_or (file ∷ files) k d) (get_or (file ∷ files) (suc k) d) ≡ true
-rises_from at file [] e k d lt = absurd (omega (arith, lt))
-rises_from at file (next ∷ files) e zero d lt = (none_then (is_before file.path next.path) at (unordered_from (at + 1) next.path files) e).0
-rises_from at file (next ∷ files) e (suc k) d lt =
-    rises_from (at + 1) next files (none_then (is_before file.path next.path) at (unordered_from (at + 1) next.path files) e).1 k d (omega (arith, lt))
-
-pub in_order : (files : List HaveFile) → unordered_at files ≡ None → is_in_order files ≡ true
-in_order [] e = refl
-in_order (file ∷ files) e = in_order_from (file ∷ files) (rises_from 1 file files e)
 
 -- ---- differences
 
