@@ -1,7 +1,10 @@
 -- What a receiver may not say, with the counts of blocks that it tells.
-use Rattle.std.specs.Prelude.{ℕ, ◌==◌, ◌||◌, not, nat_lt, nat_le, Bool, true, false, if◌then◌else◌, List, [], ◌∷◌, length, Option, Some, None}
+use Rattle.std.specs.Prelude.{ℕ, ◌==◌, ◌||◌, not, nat_le, Bool, true, false, List, [], ◌∷◌, Option, Some, None, option_map}
 use Rattle.std.specs.List.{list_any}
 use Rattle.wdt_units.specs.LaneWords.{Claims}
+use Rattle.wdt_history.specs.Checks.{fault_of}
+use Rattle.wdt_history.specs.declared.check.CheckFail.{CheckFail}
+use Rattle.wdt_history.specs.declared.check.CheckFail.TheVariants as fails
 use Rattle.wdt_codec.specs.declared.frames.Frame.{Frame}
 use Rattle.wdt_codec.specs.declared.frames.Mark.{Mark}
 use Rattle.wdt_sender_fsm.specs.declared.events.SendEvent.{SendEvent}
@@ -18,24 +21,14 @@ unexpected_in state frame = UnexpectedFrame (place_of state) (command_of frame)
 
 -- ---- counts
 
--- a count of a lane that isn't closed is at least what has surely landed, and at most what was claimed
-abbrev pub is_out_of : ℕ → ℕ → ℕ → Bool
-is_out_of low high n = nat_lt n low || nat_lt high n
-
-abbrev pub open_fault : ℕ → ℕ → ℕ → Option PeerKind
-open_fault low high n = if is_out_of low high n then Some (BadCheckpoint n low high) else None
-
--- a closed lane's count is the one that closed it
-abbrev pub closed_fault : ℕ → ℕ → Option PeerKind
-closed_fault before n = if n == before then None else Some (Differs n before)
-
-abbrev pub fault_by : Option ℕ → Claims → ℕ → Option PeerKind
-fault_by None s n = open_fault s.sure (length s.kept) n
-fault_by (Some before) s n = closed_fault before n
+-- a count that can't be right, as the end tells it
+abbrev pub kind_of : CheckFail → PeerKind
+kind_of (fails.BadCheckpoint n low high) = BadCheckpoint n low high
+kind_of (fails.Differs n before) = Differs n before
 
 -- what is wrong with a count of a lane's blocks
 abbrev pub count_fault : Claims → ℕ → Option PeerKind
-count_fault s n = fault_by s.closed s n
+count_fault s n = option_map kind_of (fault_of s n)
 
 -- the first fault of two
 abbrev pub or_else : Option PeerKind → Option PeerKind → Option PeerKind

@@ -1,6 +1,6 @@
 //! What the receiver did wrong with a count.
 ghost use Rattle.std.specs.Prelude.{◌≡◌};
-ghost use Rattle.wdt_yard.specs.Kinds.{kind_of};
+ghost use Rattle.wdt_sender_fsm.specs.Faults.{kind_of};
 
 use wdt_history::CheckFail;
 use wdt_sender_fsm::PeerKind;

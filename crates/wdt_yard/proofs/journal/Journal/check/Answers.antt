@@ -4,10 +4,7 @@ use Rattle.wdt_sender_fsm.specs.SenderHistory.{past_of}
 use Rattle.wdt_yard.specs.Ledger.{Ledger}
 use Rattle.std.specs.Prelude.{Some}
 use Rattle.std.specs.Option.{option_map}
-use Rattle.wdt_history.specs.Claimed.{lane_at}
-use Rattle.wdt_sender_fsm.specs.Faults.{count_fault}
-use Rattle.wdt_yard.specs.Kinds.{kind_of}
-use Rattle.wdt_yard.proofs.Counts.{count_fault_is}
+use Rattle.wdt_sender_fsm.specs.Faults.{count_fault, kind_of}
 use Rattle.wdt_yard.proofs.Readings.{claims_read, lanes_within}
 use Rattle.wdt_yard.proofs.journal.Journal.check.Goals as goal
 
@@ -18,7 +15,6 @@ pub returns-in-Ok : goal.returns-in-Ok
 returns-in-Ok c =
     let lt : c.args.lane.0 < length c.self.inside.tallies.items = subst (λ (j : Ledger). c.args.lane.0 < j.lanes) (sym c.self.view_is) c.requires in
     ap (option_map kind_of) c.in-Ok.ensures
-    ∙ sym (count_fault_is (lane_at c.self.inside.claims.lanes c.args.lane.0) c.args.count)
     ∙ ap (λ (s : Claims). count_fault s c.args.count) (claims_read c.args.lane.0 c.self.invariant lt)
     ∙ ap (λ (j : Ledger). count_fault (past_of j.history c.args.lane.0).claims c.args.count) c.self.view_is
 
@@ -27,6 +23,5 @@ returns-in-Err c =
     let lt : c.args.lane.0 < length c.self.inside.tallies.items = subst (λ (j : Ledger). c.args.lane.0 < j.lanes) (sym c.self.view_is) c.requires in
     ap (λ k. Some k) c.kind_of.ensures
     ∙ ap (option_map kind_of) c.in-Err.ensures
-    ∙ sym (count_fault_is (lane_at c.self.inside.claims.lanes c.args.lane.0) c.args.count)
     ∙ ap (λ (s : Claims). count_fault s c.args.count) (claims_read c.args.lane.0 c.self.invariant lt)
     ∙ ap (λ (j : Ledger). count_fault (past_of j.history c.args.lane.0).claims c.args.count) c.self.view_is

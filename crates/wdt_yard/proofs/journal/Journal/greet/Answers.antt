@@ -7,9 +7,7 @@ use Rattle.wdt_units.specs.LaneWords.{cut_to}
 use Rattle.std.specs.Option.{option_map}
 use Rattle.wdt_history.specs.Claimed.{count_kept, lane_at, with_lane}
 use Rattle.wdt_history.specs.Slots.{Book}
-use Rattle.wdt_sender_fsm.specs.Faults.{count_fault}
-use Rattle.wdt_yard.specs.Kinds.{kind_of}
-use Rattle.wdt_yard.proofs.Counts.{count_fault_is}
+use Rattle.wdt_sender_fsm.specs.Faults.{count_fault, kind_of}
 use Rattle.wdt_yard.proofs.Keeps.{greet_keeps}
 use Rattle.wdt_yard.proofs.Readings.{back_absent, claims_read, lanes_within, still_open}
 use Rattle.wdt_yard.proofs.journal.Journal.greet.Goals as goal
@@ -40,7 +38,6 @@ pub returns-in-Ok-clause-fault : goal.returns-in-Ok-clause-fault
 returns-in-Ok-clause-fault c =
     let lt : c.args.lane.0 < length c.self.inside.tallies.items = subst (λ (j : Ledger). c.args.lane.0 < j.lanes) (sym c.self.view_is) c.requires.lane in
     ap (option_map kind_of) c.in-Ok.ensures.fault
-    ∙ sym (count_fault_is (lane_at c.self.inside.claims.lanes c.args.lane.0) c.args.count)
     ∙ ap (λ (s : Claims). count_fault s c.args.count) (claims_read c.args.lane.0 c.self.invariant lt)
     ∙ ap (λ (j : Ledger). count_fault (past_of j.history c.args.lane.0).claims c.args.count) c.self.view_is
 
@@ -49,6 +46,5 @@ returns-in-Err-clause-fault c =
     let lt : c.args.lane.0 < length c.self.inside.tallies.items = subst (λ (j : Ledger). c.args.lane.0 < j.lanes) (sym c.self.view_is) c.requires.lane in
     ap (λ k. Some k) c.kind_of.ensures
     ∙ ap (option_map kind_of) c.in-Err.ensures.fault
-    ∙ sym (count_fault_is (lane_at c.self.inside.claims.lanes c.args.lane.0) c.args.count)
     ∙ ap (λ (s : Claims). count_fault s c.args.count) (claims_read c.args.lane.0 c.self.invariant lt)
     ∙ ap (λ (j : Ledger). count_fault (past_of j.history c.args.lane.0).claims c.args.count) c.self.view_is
