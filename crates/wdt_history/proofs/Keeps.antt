@@ -11,7 +11,7 @@ use Rattle.wdt_units.specs.Blocks.{is_same}
 use Rattle.wdt_units.specs.LaneWords.{Claims, no_claims, claimed, sent, cut_to, closed_at, finished}
 use Rattle.wdt_units.proofs.BlockCounts.{count_of-nil, count_of-push, one_if_same, one_if-true, one_if-false}
 use Rattle.wdt_units.proofs.BlockOrder.{one_block}
-use Rattle.wdt_history.specs.Claimed.{lane_at, with_lane, count_in, count_kept, IsLane, AreLanes}
+use Rattle.wdt_units.specs.Claimed.{lane_at, with_lane, count_in, count_kept, IsLane, AreLanes}
 
 -- ---- counts
 

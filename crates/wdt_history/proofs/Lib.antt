@@ -1,5 +1,4 @@
 pub mod Back
-pub mod Found
 pub mod Keeps
 pub mod Slots
 pub mod Standing

@@ -8,11 +8,11 @@ use Rattle.wdt_units.specs.declared.blocks.Block.{Block}
 use Rattle.wdt_units.specs.Blocks.{is_same}
 use Rattle.wdt_units.specs.LaneWords.{Claims}
 use Rattle.wdt_units.proofs.BlockCounts.{count_of-parts}
-use Rattle.wdt_history.specs.declared.place.Place.{Place}
-use Rattle.wdt_history.specs.declared.place.Place.TheVariants.{Queued, Held, Unconfirmed, Confirmed}
-use Rattle.wdt_history.specs.Claimed.{lane_at, count_in, count_kept, AreLanes, IsLane}
-use Rattle.wdt_history.specs.Places.{confirms, holds, is_among, is_queued, keeps, place_at, place_in, place_of}
-use Rattle.wdt_history.proofs.Found.{absent, among, among_first, among_last, counted_at, found, not_among, not_found, stands_at}
+use Rattle.wdt_units.specs.declared.place.Place.{Place}
+use Rattle.wdt_units.specs.declared.place.Place.TheVariants.{Queued, Held, Unconfirmed, Confirmed}
+use Rattle.wdt_units.specs.Claimed.{lane_at, count_in, count_kept, AreLanes, IsLane}
+use Rattle.wdt_units.specs.Places.{confirms, holds, is_among, is_queued, keeps, place_at, place_in, place_of}
+use Rattle.wdt_units.proofs.Found.{absent, among, among_first, among_last, counted_at, found, not_among, not_found, stands_at}
 use Rattle.wdt_history.proofs.Keeps.{count_kept-cons, count_kept-nil}
 
 -- the place by what the tests answer

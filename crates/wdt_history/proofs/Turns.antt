@@ -6,8 +6,8 @@ use Rattle.wdt_units.specs.declared.blocks.Block.{Block}
 use Rattle.wdt_units.specs.Blocks.{count_of, HaveSameBlocks}
 use Rattle.wdt_units.specs.LaneWords.{Claims, cut_to, closed_at}
 use Rattle.wdt_units.proofs.BlockCounts.{count_of-append, count_of-parts}
-use Rattle.wdt_history.specs.Checks.{fault_by, fault_of, open_fault}
-use Rattle.wdt_history.specs.Claimed.{lane_at, with_lane, count_kept, IsLane, AreLanes}
+use Rattle.wdt_units.specs.Checks.{fault_by, fault_of, open_fault}
+use Rattle.wdt_units.specs.Claimed.{lane_at, with_lane, count_kept, IsLane, AreLanes}
 use Rattle.wdt_history.proofs.Keeps.{count_kept-with, is_at, lane_closed, lane_cut, lanes_with_fewer}
 
 -- a count that isn't refused is within the list of an open lane
@@ -15,10 +15,6 @@ pub within_list : (s : Claims) (n : ℕ) → s.closed ≡ None → None ≡ faul
 within_list s n unclosed fine =
     let e : None ≡ open_fault s n = fine ∙ ap (λ (o : Option ℕ). fault_by o s n) unclosed in
     grind (arith, nat_tests)
-
-pub none_of : (o : Option ℕ) → is_some o ≡ false → o ≡ None
-none_of None h = refl
-none_of (Some n) h = cc
 
 -- a lane that keeps a front of its list
 pub front_keeps : (lanes : List Claims) (l n : ℕ) (s : Claims) → AreLanes lanes → l < length lanes → IsLane s → s.kept ≡ take n (lane_at lanes l).kept → AreLanes (with_lane lanes l s)

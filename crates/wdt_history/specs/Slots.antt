@@ -2,7 +2,7 @@
 use Rattle.std.specs.Prelude.{ℕ, ◌<◌, List, map, slice_index_or, Option, Some, None}
 use Rattle.wdt_units.specs.LaneWords.{Claims, no_claims, finished}
 use Rattle.wdt_units.specs.declared.numbers.Lane.{Lane}
-use Rattle.wdt_history.specs.Claimed.{AreLanes}
+use Rattle.wdt_units.specs.Claimed.{AreLanes}
 
 -- the claims of each lane, and the lane that can claim one more block without memory, if any
 pub record Book : Type 0 where

@@ -4,17 +4,15 @@ ghost use Rattle.std.specs.Result.{result_err};
 ghost use Rattle.wdt_units.specs.declared.blocks.Block.{Block as PlainBlock};
 ghost use Rattle.wdt_units.specs.Blocks.{are_rising, count_of, AreDistinct, HaveSameBlocks};
 ghost use Rattle.wdt_units.specs.LaneWords.{no_claims, claimed, sent, cut_to, closed_at, finished};
-ghost use Rattle.wdt_history.specs.Checks.{fault_of, goes_back};
-ghost use Rattle.wdt_history.specs.Claimed.{lane_at, with_lane, count_kept, is_held, AreLanes};
-ghost use Rattle.wdt_history.specs.Places.{place_of};
+ghost use Rattle.wdt_units.specs.Checks.{fault_of, goes_back};
+ghost use Rattle.wdt_units.specs.Claimed.{lane_at, with_lane, count_kept, is_held, AreLanes};
+ghost use Rattle.wdt_units.specs.Places.{place_of};
 
-use crate::check::CheckFail;
 use crate::lane::LaneClaims;
-use crate::place::Place;
 use std::alloc::Global;
 use std::marker::Model;
 use wdt_queue::Queue;
-use wdt_units::{Block, Lane, NoMemory};
+use wdt_units::{Block, CheckFail, Lane, NoMemory, Place};
 
 /// What the lanes of a sender have claimed, seen as a list with the claims of each, beside the lane that
 /// can claim a block without memory.

@@ -3,16 +3,14 @@ ghost use Rattle.std.specs.Prelude.{◌≡◌, ℕ, ◌+◌, ◌<◌, ◌≤◌,
 ghost use Rattle.std.specs.Result.{result_err};
 ghost use Rattle.wdt_units.specs.Blocks.{are_rising, is_same, AreDistinct, HaveSameBlocks};
 ghost use Rattle.wdt_units.specs.LaneWords.{no_claims, claimed, sent, cut_to, closed_at, finished};
-ghost use Rattle.wdt_history.specs.Checks.{fault_of};
-ghost use Rattle.wdt_history.specs.Claimed.{IsLane};
-ghost use Rattle.wdt_history.specs.Places.{place_at, place_in};
+ghost use Rattle.wdt_units.specs.Checks.{fault_of};
+ghost use Rattle.wdt_units.specs.Claimed.{IsLane};
+ghost use Rattle.wdt_units.specs.Places.{place_at, place_in};
 
-use crate::check::CheckFail;
-use crate::place::Place;
 use std::alloc::Global;
 use std::marker::Model;
 use wdt_queue::Queue;
-use wdt_units::{Block, NoMemory};
+use wdt_units::{Block, CheckFail, NoMemory, Place};
 
 /// What a lane has claimed.
 #[derive(Debug, Drop)]

@@ -9,16 +9,13 @@
 //! the lane that writes it, written but unconfirmed, or confirmed.
 #![tactic(auto)]
 
-mod check;
 mod history;
 mod lane;
 mod laws;
-mod place;
 
-pub use check::CheckFail;
 pub use history::History;
 pub use laws::{a_listed_block_has_the_place_of_its_index, a_queued_block_is_in_no_list};
-pub use place::Place;
+pub use wdt_units::{CheckFail, Place};
 
 #[cfg(test)]
 mod tests;

@@ -15,7 +15,7 @@ use Rattle.wdt_rest.specs.RestOf.{spans_of, pieces_in, piece_at, first_pieces, p
 use Rattle.wdt_tree.specs.Listing.{is_entry}
 use Rattle.wdt_tree.specs.declared.entry.Entry.{Entry}
 use Rattle.wdt_sender_fsm.specs.declared.events.SendEvent.{SendEvent}
-use Rattle.wdt_history.specs.Places.{is_queued}
+use Rattle.wdt_units.specs.Places.{is_queued}
 use Rattle.wdt_sender_fsm.specs.Places.{least_of, queued, claims_of, planned_now, planned_now-is}
 use Rattle.wdt_sender_fsm.specs.PlainSender.{PlainSender, blocks_of, listed_blocks, header_by, header_of}
 use Rattle.wdt_sender_fsm.specs.Sender.{plan_of}

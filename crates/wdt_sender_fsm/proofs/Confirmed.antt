@@ -6,8 +6,8 @@ use Rattle.std.proofs.lemmas.List.Folds.{list_any-append}
 use Rattle.wdt_units.specs.Blocks.{is_same}
 use Rattle.wdt_units.specs.LaneWords.{Claims, claimed, sent, cut_to}
 use Rattle.wdt_units.specs.declared.blocks.Block.{Block}
-use Rattle.wdt_history.specs.Places.{is_among, keeps, confirms, holds, is_queued, place_of}
-use Rattle.wdt_history.specs.declared.place.Place.TheVariants.{Queued, Held, Unconfirmed, Confirmed}
+use Rattle.wdt_units.specs.Places.{is_among, keeps, confirms, holds, is_queued, place_of}
+use Rattle.wdt_units.specs.declared.place.Place.TheVariants.{Queued, Held, Unconfirmed, Confirmed}
 use Rattle.wdt_sender_fsm.specs.declared.events.SendEvent.{SendEvent}
 use Rattle.wdt_sender_fsm.specs.declared.events.SendEvent.TheVariants.{Linked, NoLink, Lost, Greet, Chunks, Claim, Sent, Done, Global, Finish, Acked, Quit, Abort, Peer}
 use Rattle.wdt_sender_fsm.specs.Legal.{IsAllowed, Tells, TellsBy}

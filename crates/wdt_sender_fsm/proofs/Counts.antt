@@ -8,8 +8,8 @@ use Rattle.wdt_units.specs.Blocks.{precedes, are_rising, is_same, count_of}
 use Rattle.wdt_units.proofs.BlockCounts.{count_of-nil, count_of-cons, one_if-false}
 use Rattle.wdt_units.proofs.BlockOrder.{one_block}
 use Rattle.wdt_tree.specs.Rest.{is_earlier, is_rising}
-use Rattle.wdt_history.specs.Places.{is_among}
-use Rattle.wdt_history.proofs.Found.{not_among}
+use Rattle.wdt_units.specs.Places.{is_among}
+use Rattle.wdt_units.proofs.Found.{not_among}
 
 -- a block of a list is counted
 pub present : (b : Block) (xs : List Block) → is_among xs b ≡ true → 1 ≤ count_of b xs

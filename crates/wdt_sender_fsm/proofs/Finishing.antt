@@ -11,7 +11,7 @@ use Rattle.wdt_sender_fsm.specs.declared.events.SendEvent.TheVariants as events
 use Rattle.wdt_sender_fsm.specs.declared.peers.PeerKind.TheVariants as peers
 use Rattle.wdt_sender_fsm.specs.declared.states.SendState.{SendState}
 use Rattle.wdt_sender_fsm.specs.declared.states.SendState.TheVariants as states
-use Rattle.wdt_history.specs.Claimed.{is_held}
+use Rattle.wdt_units.specs.Claimed.{is_held}
 use Rattle.wdt_sender_fsm.specs.Places.{tabulate, claims_of, holding, queued}
 use Rattle.wdt_sender_fsm.specs.PlainSender.{PlainSender, lane_at, state_at, past_at, blocks_of, unfinished_blocks, noted, goes}
 use Rattle.wdt_sender_fsm.specs.Rows.{Row, DoneAtOnce}

@@ -7,8 +7,8 @@ use Rattle.wdt_units.specs.Blocks.{is_same}
 use Rattle.wdt_units.specs.LaneWords.{Claims, sent, cut_to, closed_at}
 use Rattle.wdt_units.specs.declared.blocks.Block.{Block}
 use Rattle.wdt_units.proofs.BlockOrder.{one_block}
-use Rattle.wdt_history.specs.Places.{is_among, keeps, confirms, is_queued, place_of}
-use Rattle.wdt_history.specs.declared.place.Place.TheVariants.{Confirmed}
+use Rattle.wdt_units.specs.Places.{is_among, keeps, confirms, is_queued, place_of}
+use Rattle.wdt_units.specs.declared.place.Place.TheVariants.{Confirmed}
 use Rattle.wdt_sender_fsm.specs.declared.events.SendEvent.{SendEvent}
 use Rattle.wdt_sender_fsm.specs.declared.events.SendEvent.TheVariants.{Linked, NoLink, Lost, Greet, Chunks, Claim, Sent, Done, Global, Finish, Acked, Quit, Abort, Peer}
 use Rattle.wdt_sender_fsm.specs.Legal.{IsAllowed, IsLegal, IsWithin, Tells, TellsBy}

@@ -10,9 +10,9 @@ use Rattle.wdt_units.specs.declared.blocks.Block.{Block}
 use Rattle.wdt_units.proofs.BlockCounts.{count_of-nil, count_of-parts, count_of-push, one_if_same, rising_distinct}
 use Rattle.wdt_units.proofs.BlockOrder.{one_block, same_itself}
 use Rattle.wdt_tree.specs.Rest.{is_rising}
-use Rattle.wdt_history.specs.Claimed.{count_in as count_in_lane, count_kept}
-use Rattle.wdt_history.specs.Places.{is_among, keeps, is_queued}
-use Rattle.wdt_history.proofs.Found.{absent}
+use Rattle.wdt_units.specs.Claimed.{count_in as count_in_lane, count_kept}
+use Rattle.wdt_units.specs.Places.{is_among, keeps, is_queued}
+use Rattle.wdt_units.proofs.Found.{absent}
 use Rattle.wdt_sender_fsm.specs.declared.events.SendEvent.{SendEvent}
 use Rattle.wdt_sender_fsm.specs.declared.events.SendEvent.TheVariants.{Linked, NoLink, Lost, Greet, Chunks, Claim, Sent, Done, Global, Finish, Acked, Quit, Abort, Peer}
 use Rattle.wdt_sender_fsm.specs.Legal.{IsAllowed, IsLegal}

@@ -4,8 +4,8 @@ use Rattle.wdt_units.specs.Have.{HaveFile}
 use Rattle.wdt_units.specs.declared.blocks.Block.{Block}
 use Rattle.wdt_units.specs.declared.numbers.Lane.{Lane}
 use Rattle.wdt_units.proofs.BlockCounts.{rising_distinct}
-use Rattle.wdt_history.specs.Places.{place_of}
-use Rattle.wdt_history.specs.declared.place.Place.TheVariants.{Confirmed}
+use Rattle.wdt_units.specs.Places.{place_of}
+use Rattle.wdt_units.specs.declared.place.Place.TheVariants.{Confirmed}
 use Rattle.wdt_tree.specs.Rest.{IsRest, is_rising}
 use Rattle.wdt_sender_fsm.specs.declared.events.SendEvent.{SendEvent}
 use Rattle.wdt_sender_fsm.specs.declared.inputs.SendIn.{SendIn}

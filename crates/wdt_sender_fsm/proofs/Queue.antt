@@ -7,7 +7,7 @@ use Rattle.wdt_units.specs.Blocks.{is_same}
 use Rattle.wdt_units.specs.declared.blocks.Block.{Block}
 use Rattle.wdt_units.proofs.BlockOrder.{one_block}
 use Rattle.wdt_tree.specs.Rest.{is_earlier, is_rising}
-use Rattle.wdt_history.specs.Places.{is_among, is_queued}
+use Rattle.wdt_units.specs.Places.{is_among, is_queued}
 use Rattle.wdt_sender_fsm.specs.declared.events.SendEvent.{SendEvent}
 use Rattle.wdt_sender_fsm.proofs.Histories.{false_true}
 use Rattle.wdt_sender_fsm.specs.Places.{claims_of, planned_now-is, queue_of, queued, least_of}

@@ -19,7 +19,7 @@ use Rattle.wdt_sender_fsm.specs.Sender.{Fares, FitsIn, IsSender, is_over}
 use Rattle.wdt_sender_fsm.specs.SenderHistory.{LanePast, end_of}
 use Rattle.wdt_sender_fsm.specs.Stops.{is_through}
 use Rattle.wdt_sender_fsm.specs.Turn.{rests, leaves, gives_up, turn_row, after_starving, is_over as is_over_row, ruled, send_turn}
-use Rattle.wdt_history.proofs.Turns.{none_of}
+use Rattle.wdt_units.proofs.Found.{none_of}
 use Rattle.wdt_sender_fsm.proofs.Endings.{Right, Free, leaving, ended_rests, telling, follows_same, fails_now}
 use Rattle.wdt_sender_fsm.proofs.Outcomes.{done_only}
 use Rattle.wdt_sender_fsm.proofs.Rights.{Basis}

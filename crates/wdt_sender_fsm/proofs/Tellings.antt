@@ -7,8 +7,8 @@ use Rattle.wdt_units.specs.declared.blocks.Block.{Block}
 use Rattle.wdt_sender_fsm.specs.declared.events.SendEvent.{SendEvent}
 use Rattle.wdt_sender_fsm.specs.declared.peers.PeerKind.{PeerKind}
 use Rattle.wdt_sender_fsm.specs.declared.peers.PeerKind.TheVariants as peers
-use Rattle.wdt_history.specs.Checks.{fault_by}
-use Rattle.wdt_history.specs.declared.check.CheckFail.TheVariants as fails
+use Rattle.wdt_units.specs.Checks.{fault_by}
+use Rattle.wdt_units.specs.declared.check.CheckFail.TheVariants as fails
 use Rattle.wdt_sender_fsm.specs.Faults.{count_fault, kind_of}
 use Rattle.wdt_sender_fsm.specs.Legal.{IsFault, TellsBy}
 use Rattle.wdt_sender_fsm.specs.SenderHistory.{past_of}

@@ -7,7 +7,7 @@ use Rattle.wdt_codec.specs.Frames.{Fits}
 use Rattle.wdt_codec.specs.declared.frames.Frame.{Frame}
 use Rattle.wdt_codec.specs.declared.frames.Frame.TheVariants as frames
 use Rattle.wdt_tree.specs.declared.entry.Entry.{Entry}
-use Rattle.wdt_history.proofs.Turns.{none_of}
+use Rattle.wdt_units.proofs.Found.{none_of}
 use Rattle.wdt_sender_fsm.specs.declared.answers.EndAnswer.{EndAnswer}
 use Rattle.wdt_sender_fsm.specs.declared.answers.EndAnswer.TheVariants as answers
 use Rattle.wdt_sender_fsm.specs.declared.inputs.SendIn.{SendIn}

@@ -2,9 +2,9 @@
 use Rattle.std.specs.Prelude.{ℕ, ◌==◌, ◌||◌, not, nat_le, Bool, true, false, List, [], ◌∷◌, Option, Some, None, option_map}
 use Rattle.std.specs.List.{list_any}
 use Rattle.wdt_units.specs.LaneWords.{Claims}
-use Rattle.wdt_history.specs.Checks.{fault_of}
-use Rattle.wdt_history.specs.declared.check.CheckFail.{CheckFail}
-use Rattle.wdt_history.specs.declared.check.CheckFail.TheVariants as fails
+use Rattle.wdt_units.specs.Checks.{fault_of}
+use Rattle.wdt_units.specs.declared.check.CheckFail.{CheckFail}
+use Rattle.wdt_units.specs.declared.check.CheckFail.TheVariants as fails
 use Rattle.wdt_codec.specs.declared.frames.Frame.{Frame}
 use Rattle.wdt_codec.specs.declared.frames.Mark.{Mark}
 use Rattle.wdt_sender_fsm.specs.declared.events.SendEvent.{SendEvent}

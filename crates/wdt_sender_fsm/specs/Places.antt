@@ -3,8 +3,8 @@ use Rattle.std.specs.Prelude.{◌≡◌, refl, ℕ, zero, suc, ◌+◌, Bool, Li
 use Rattle.wdt_units.specs.Blocks.{count_of}
 use Rattle.wdt_units.specs.LaneWords.{Claims}
 use Rattle.wdt_units.specs.declared.blocks.Block.{Block}
-use Rattle.wdt_history.specs.Claimed.{count_kept, is_held}
-use Rattle.wdt_history.specs.Places.{is_queued}
+use Rattle.wdt_units.specs.Claimed.{count_kept, is_held}
+use Rattle.wdt_units.specs.Places.{is_queued}
 use Rattle.wdt_sender_fsm.specs.declared.events.SendEvent.{SendEvent}
 use Rattle.wdt_sender_fsm.specs.declared.events.SendEvent.TheVariants.{Greet, Claim, Sent, Global, Finish}
 use Rattle.wdt_sender_fsm.specs.SenderHistory.{past_of}

@@ -10,8 +10,8 @@ use Rattle.wdt_units.specs.declared.numbers.Conn.{Conn}
 use Rattle.wdt_units.specs.declared.numbers.Lane.{Lane}
 use Rattle.wdt_codec.specs.declared.frames.Frame.{Frame}
 use Rattle.wdt_codec.specs.declared.frames.Frame.TheVariants as frames
-use Rattle.wdt_history.specs.Places.{place_of}
-use Rattle.wdt_history.specs.declared.place.Place.{Place}
+use Rattle.wdt_units.specs.Places.{place_of}
+use Rattle.wdt_units.specs.declared.place.Place.{Place}
 use Rattle.wdt_tree.specs.Listing.{size_of}
 use Rattle.wdt_tree.specs.declared.entry.Entry.{Entry}
 use Rattle.wdt_sender_fsm.specs.declared.answers.EndAnswer.{EndAnswer}

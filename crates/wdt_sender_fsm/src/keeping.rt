@@ -3,7 +3,7 @@ ghost use Rattle.std.specs.Prelude.{◌≡◌, ◌↔◌, ℕ, ◌<◌, ◌≤�
 ghost use Rattle.std.specs.List.{All, Contains};
 ghost use Rattle.wdt_units.specs.declared.blocks.Block.{Block};
 ghost use Rattle.wdt_units.specs.declared.numbers.Lane.{Lane};
-ghost use Rattle.wdt_history.specs.declared.place.Place.TheVariants.{Confirmed};
+ghost use Rattle.wdt_units.specs.declared.place.Place.TheVariants.{Confirmed};
 ghost use Rattle.wdt_tree.specs.Rest.{IsRest};
 ghost use Rattle.wdt_tree.specs.declared.entry.Entry.{Entry};
 ghost use Rattle.wdt_sender_fsm.specs.declared.answers.EndAnswer.TheVariants as answers;

@@ -1,5 +1,6 @@
 pub mod BlockCounts
 pub mod BlockOrder
+pub mod Found
 pub mod Lawful
 pub mod PathBytes
 pub mod PathFill

@@ -1,4 +1,6 @@
 pub mod Blocks
+pub mod Checks
+pub mod Claimed
 pub mod Counts
 pub mod Have
 pub mod Inputs
@@ -6,6 +8,7 @@ pub mod LaneWords
 pub mod Lanes
 pub mod Memory
 pub mod Path
+pub mod Places
 pub mod Scan
 pub mod Sinks
 pub mod Tree

@@ -11,6 +11,7 @@
 #![tactic(auto)]
 
 mod blocks;
+mod check;
 mod failures;
 mod inputs;
 mod laws;
@@ -18,10 +19,12 @@ mod limits;
 mod machine;
 mod numbers;
 mod path;
+mod place;
 mod scan;
 mod sinks;
 
 pub use blocks::{Block, Header};
+pub use check::CheckFail;
 pub use failures::{Failed, NoMemory};
 pub use inputs::{FromRead, Input, MemInput};
 pub use laws::rising_blocks_are_one_list;
@@ -29,6 +32,7 @@ pub use limits::{MAX_BLOCK, MAX_FILE_SIZE, MAX_FILES, MAX_PATH, MAX_TOTAL, PIECE
 pub use machine::Machine;
 pub use numbers::{Conn, Lane, LaneSet, Spot};
 pub use path::{Name, NameFail, is_reserved};
+pub use place::Place;
 pub use scan::{PathScan, scan_on};
 pub use sinks::{MemSink, Sink, ToWrite};
 

@@ -1,7 +1,7 @@
 -- What one more entry makes of the claims, the tallies and the finish.
 use Rattle.std.proofs.Common.{◌≡◌, ◌≢◌, ℕ, ◌<◌, ◌==◌, Bool, true, List, [], ◌∷◌, ◌++◌, get_or, set, if◌then◌else◌, refl, sym, ap, ◌∙◌}
 use Rattle.wdt_units.specs.LaneWords.{Claims}
-use Rattle.wdt_history.specs.Claimed.{lane_at, with_lane}
+use Rattle.wdt_units.specs.Claimed.{lane_at, with_lane}
 use Rattle.wdt_sender_fsm.specs.declared.events.SendEvent.{SendEvent}
 use Rattle.wdt_sender_fsm.specs.declared.events.SendEvent.TheVariants as events
 use Rattle.wdt_sender_fsm.specs.Places.{claims_of}

@@ -11,9 +11,9 @@ use Rattle.wdt_units.specs.LaneWords.{Claims, no_claims, claimed, sent, cut_to, 
 use Rattle.wdt_units.proofs.BlockCounts.{count_of-cons, count_of-nil, count_of-push, one_if-true, rising_distinct}
 use Rattle.wdt_units.proofs.BlockOrder.{same_itself}
 use Rattle.wdt_queue.specs.Waiting.{Waiting}
-use Rattle.wdt_history.specs.declared.check.CheckFail.{CheckFail}
-use Rattle.wdt_history.specs.Checks.{fault_of, goes_back, back_by}
-use Rattle.wdt_history.specs.Claimed.{count_kept, lane_at, with_lane}
+use Rattle.wdt_units.specs.declared.check.CheckFail.{CheckFail}
+use Rattle.wdt_units.specs.Checks.{fault_of, goes_back, back_by}
+use Rattle.wdt_units.specs.Claimed.{count_kept, lane_at, with_lane}
 use Rattle.wdt_history.specs.Slots.{Book}
 use Rattle.wdt_history.proofs.Keeps.{count_kept-finished, count_kept-with}
 use Rattle.wdt_sender_fsm.specs.declared.events.SendEvent.{SendEvent}

@@ -9,9 +9,9 @@ use Rattle.wdt_units.specs.Blocks.{precedes, are_rising, is_same, count_of}
 use Rattle.wdt_units.specs.LaneWords.{Claims}
 use Rattle.wdt_units.proofs.BlockOrder.{same_itself}
 use Rattle.wdt_units.proofs.BlockCounts.{count_of-cons, one_if-true, rising_once, rising_distinct}
-use Rattle.wdt_history.specs.Claimed.{count_in, count_kept}
-use Rattle.wdt_history.specs.Places.{is_queued, keeps}
-use Rattle.wdt_history.proofs.Found.{absent}
+use Rattle.wdt_units.specs.Claimed.{count_in, count_kept}
+use Rattle.wdt_units.specs.Places.{is_queued, keeps}
+use Rattle.wdt_units.proofs.Found.{absent}
 use Rattle.wdt_sender_fsm.specs.declared.events.SendEvent.{SendEvent}
 use Rattle.wdt_sender_fsm.specs.Places.{AreShared, least_of, queue_of, queued, claims_of, planned_now}
 use Rattle.wdt_sender_fsm.proofs.Counts.{present, kept_count, dropped_count}

@@ -8,9 +8,9 @@ use Rattle.wdt_units.specs.Blocks.{count_of, AreDistinct}
 use Rattle.wdt_units.specs.LaneWords.{Claims, no_claims, finished}
 use Rattle.wdt_units.proofs.BlockCounts.{count_of-append, count_of-nil, count_of-parts, rising_distinct}
 use Rattle.wdt_queue.specs.Waiting.{Waiting}
-use Rattle.wdt_history.specs.Checks.{goes_back, back_by}
-use Rattle.wdt_history.specs.Claimed.{count_in, count_kept, lane_at, with_lane}
-use Rattle.wdt_history.proofs.Turns.{none_of}
+use Rattle.wdt_units.specs.Checks.{goes_back, back_by}
+use Rattle.wdt_units.specs.Claimed.{count_in, count_kept, lane_at, with_lane}
+use Rattle.wdt_units.proofs.Found.{none_of}
 use Rattle.wdt_history.proofs.Keeps.{count_in-le}
 use Rattle.wdt_sender_fsm.specs.declared.events.SendEvent.{SendEvent}
 use Rattle.wdt_sender_fsm.specs.declared.events.SendEvent.TheVariants as events

@@ -6,7 +6,7 @@ use Rattle.wdt_units.specs.declared.blocks.Block.{Block}
 use Rattle.wdt_units.specs.Blocks.{are_rising, count_of}
 use Rattle.wdt_units.specs.LaneWords.{Claims, no_claims}
 use Rattle.wdt_queue.specs.Waiting.{Waiting}
-use Rattle.wdt_history.specs.Claimed.{count_kept}
+use Rattle.wdt_units.specs.Claimed.{count_kept}
 use Rattle.wdt_history.proofs.Keeps.{count_kept-none}
 use Rattle.wdt_sender_fsm.specs.Places.{claims_of}
 use Rattle.wdt_sender_fsm.proofs.Claimed.{claims_none, tabulate_one, tabulate_same}

@@ -3,7 +3,7 @@ ghost use Rattle.std.specs.Prelude.{◌≡◌, ◌↔◌, ◌<◌, ◌≤◌, �
 ghost use Rattle.std.specs.List.{Contains};
 ghost use Rattle.wdt_units.specs.declared.blocks.Block.{Block as PlainBlock};
 ghost use Rattle.wdt_units.specs.declared.numbers.Lane.{Lane as PlainLane};
-ghost use Rattle.wdt_history.specs.declared.place.Place.TheVariants.{Confirmed};
+ghost use Rattle.wdt_units.specs.declared.place.Place.TheVariants.{Confirmed};
 ghost use Rattle.wdt_sender_fsm.specs.declared.answers.EndAnswer.TheVariants as answers;
 ghost use Rattle.wdt_sender_fsm.specs.declared.peers.PeerKind.{PeerKind};
 ghost use Rattle.wdt_sender_fsm.specs.Causes.{Follows, HasNoLane, RefusesRightly, has_all_done};

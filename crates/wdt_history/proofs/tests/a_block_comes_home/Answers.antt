@@ -3,8 +3,8 @@ use Rattle.wdt_units.specs.declared.blocks.Block.{Block}
 use Rattle.wdt_units.specs.Blocks.{count_of}
 use Rattle.wdt_units.specs.LaneWords.{Claims, claimed, no_claims, sent}
 use Rattle.wdt_units.proofs.BlockCounts.{count_of-append, count_of-nil}
-use Rattle.wdt_history.specs.Checks.{goes_back}
-use Rattle.wdt_history.specs.Claimed.{count_kept, lane_at, with_lane}
+use Rattle.wdt_units.specs.Checks.{goes_back}
+use Rattle.wdt_units.specs.Claimed.{count_kept, lane_at, with_lane}
 use Rattle.wdt_history.specs.Slots.{Book}
 use Rattle.wdt_history.proofs.Keeps.{count_kept-none}
 use Rattle.wdt_history.proofs.tests.a_block_comes_home.Goals as goal

@@ -2,8 +2,8 @@
 use Rattle.std.specs.Prelude.{ℕ, nat_le, ◌==◌, ◌&&◌, if◌then◌else◌, List, [], length, drop, Option, Some, None}
 use Rattle.wdt_units.specs.declared.blocks.Block.{Block}
 use Rattle.wdt_units.specs.LaneWords.{Claims}
-use Rattle.wdt_history.specs.declared.check.CheckFail.{CheckFail}
-use Rattle.wdt_history.specs.declared.check.CheckFail.TheVariants.{BadCheckpoint, Differs}
+use Rattle.wdt_units.specs.declared.check.CheckFail.{CheckFail}
+use Rattle.wdt_units.specs.declared.check.CheckFail.TheVariants.{BadCheckpoint, Differs}
 
 -- an open lane's count is from its sure blocks up to all of its list
 abbrev pub open_fault : Claims → ℕ → Option CheckFail

@@ -1,5 +1,5 @@
 -- Where a block is found in one list.
-use Rattle.std.proofs.Common.{◌≡◌, ℕ, suc, ◌+◌, ◌-◌, ◌<◌, ◌≤◌, true, false, ltb, ◌==◌, List, [], ◌∷◌, length, get_or, take, drop, slice_get, Option, Some, None, sym, ap, ◌∙◌, subst, inl, inr, arith}
+use Rattle.std.proofs.Common.{◌≡◌, ℕ, suc, ◌+◌, ◌-◌, ◌<◌, ◌≤◌, true, false, ltb, ◌==◌, List, [], ◌∷◌, length, get_or, take, drop, slice_get, Option, Some, None, is_some, refl, sym, ap, ◌∙◌, subst, inl, inr, arith}
 use Rattle.std.specs.List.{position, position_or_len}
 use Rattle.std.proofs.lemmas.Bool.{cases_Bool, cases_eq, cases_lt, cond-true, eq-eqb, le-ltb, lt-ltb, ltb-false, ne_eqb, or_parts}
 use Rattle.std.proofs.lemmas.List.{drop_more, get_or-drop, get_or-take, length-drop, length-take-le}
@@ -11,7 +11,7 @@ use Rattle.wdt_units.specs.declared.blocks.Block.{Block}
 use Rattle.wdt_units.specs.Blocks.{count_of, is_same}
 use Rattle.wdt_units.proofs.BlockOrder.{one_block, same_itself}
 use Rattle.wdt_units.proofs.BlockCounts.{count_of-cons, count_of-nil, count_of-parts, one_if-false, one_if-true, other_at}
-use Rattle.wdt_history.specs.Places.{is_among}
+use Rattle.wdt_units.specs.Places.{is_among}
 
 -- the first block that is the same, at an index
 first_at : (b : Block) (xs : List Block) (i : ℕ) → position_or_len (is_same b) xs ≡ i → i < length xs → position (is_same b) xs ≡ Some i
@@ -120,3 +120,7 @@ absent b [] gone = count_of-nil b
 absent b (x ∷ xs) gone =
     let both = or_parts (is_same b x) (is_among xs b) gone in
     omega (arith, count_of-cons b x xs, one_if-false b x both.0, absent b xs both.1)
+
+pub none_of : (o : Option ℕ) → is_some o ≡ false → o ≡ None
+none_of None h = refl
+none_of (Some n) h = cc

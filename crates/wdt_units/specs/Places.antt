@@ -4,8 +4,8 @@ use Rattle.std.specs.List.{list_any}
 use Rattle.wdt_units.specs.declared.blocks.Block.{Block}
 use Rattle.wdt_units.specs.Blocks.{is_same}
 use Rattle.wdt_units.specs.LaneWords.{Claims}
-use Rattle.wdt_history.specs.declared.place.Place.{Place}
-use Rattle.wdt_history.specs.declared.place.Place.TheVariants.{Queued, Held, Unconfirmed, Confirmed}
+use Rattle.wdt_units.specs.declared.place.Place.{Place}
+use Rattle.wdt_units.specs.declared.place.Place.TheVariants.{Queued, Held, Unconfirmed, Confirmed}
 
 abbrev pub is_among : List Block → Block → Bool
 is_among blocks block = list_any (is_same block) blocks
