@@ -72,9 +72,8 @@ impl Yard {
     /// nothing has changed. A step that notes nothing takes no memory, so `Starved` is never handed
     /// back.
     ///
-    /// The act is Stop exactly where `stops` says so; a failed end keeps its answer and notes nothing
-    /// more, and a new failure has its cause, a refusal of the tree exactly where it has; the history
-    /// stays legal, each block of the plan has one place, and a confirmed block stays confirmed.
+    /// When a lane stops, why an end fails or refuses the tree, and where blocks stand is said in the
+    /// words of `wdt_sender_fsm`: `specs/Stops`, `specs/Causes` and `specs/PlainSender`.
     pub fn step(&mut self, lane: Lane, put: SendIn) -> Result<SendAct, SendIn>
         requires lane { lane.0 < length self.old.lanes }
         requires fits { FitsIn put }
@@ -110,9 +109,8 @@ impl Yard {
         self.end.history()
     }
 
-    /// How the end fares: done exactly where a lane read the receiver's last word and each is
-    /// acknowledged or closed, without a lane exactly where that isn't so and each has ended or is
-    /// closed, and failed by the receiver exactly where the history says so.
+    /// How the end fares. The history and the lanes say exactly when it is done or has no lane left,
+    /// and when the receiver failed it; every other failure has its cause in the step that it came of.
     pub fn answer(&self) -> &EndAnswer
         ensures value { result.now ≡ self.now.answer }
         ensures done { (self.now.answer ≡ answers.Done) ↔ (has_all_done self.now ≡ true) }
