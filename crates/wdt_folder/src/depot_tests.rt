@@ -199,26 +199,36 @@ fn make_each<D: Depot>(depot: &mut D, names: &Vec<Name>) -> Result<(), DepotFail
     Ok(())
 }
 
-// Reads the first byte of a file that stays entered while others are made.
+// Reads the first bytes of two files that stay entered while others are made.
 fn read_behind<D: Depot>(
     depot: &mut D,
-    held: &Name,
+    held: [&Name; 2],
     names: &Vec<Name>,
-    into: &mut [u8],
-) -> Result<usize, DepotFail>
+    into: &mut [u8; 2],
+) -> Result<(usize, usize), DepotFail>
     requires { (D.state depot.old).spots ≡ [] }
     ensures { (D.state depot.new).spots ≡ [] }
 {
-    let spot = depot.need(held)?;
+    let [held, other] = held;
+    let first = depot.need(held)?;
+    let second = match depot.need(other) {
+        Ok(spot) => spot,
+        Err(fail) => {
+            depot.leave(first);
+            return Err(fail);
+        }
+    };
     let made = make_each(depot, names);
-    let count = depot.read_at(spot, 0, into);
-    depot.leave(spot);
+    let one = depot.read_at(first, 0, &mut into[..1]);
+    let two = depot.read_at(second, 0, &mut into[1..]);
+    depot.leave(second);
+    depot.leave(first);
     made?;
-    count
+    Ok((one?, two?))
 }
 
 #[test]
-fn an_entered_file_stays_open(rt: HostRuntime) -> Result<(), Fail> {
+fn entered_files_stay_open(rt: HostRuntime) -> Result<(), Fail> {
     let alloc = rt.alloc();
     let root = new_root(&rt)?;
     let root = root.as_str();
@@ -228,15 +238,21 @@ fn an_entered_file_stays_open(rt: HostRuntime) -> Result<(), Fail> {
         names.push(Name::read(alloc, text.as_bytes())?)?;
     }
     let held = Name::read(alloc, b"held")?;
+    let other = Name::read(alloc, b"other")?;
     let mut depot = depot_at(&rt, root)?;
     assert_eq!(rt; depot.make(&held), Ok(()));
+    assert_eq!(rt; depot.make(&other), Ok(()));
     assert_eq!(rt; put(&mut depot, &held, 0, b"h"), Ok(()));
-    // Gone from its folder, the file can be read through its open handle alone.
+    assert_eq!(rt; put(&mut depot, &other, 0, b"o"), Ok(()));
+    // Gone from its folder, a file can be read through its open handle alone.
     let full = format!(in alloc; "{root}/held")?;
     fs::remove_file(&rt, full.as_str())?;
-    let mut piece = [0; 1];
-    assert_eq!(rt; read_behind(&mut depot, &held, &names, &mut piece), Ok(1));
-    assert_eq!(rt; piece, *b"h");
+    let mut piece = [0; 2];
+    assert_eq!(rt;
+        read_behind(&mut depot, [&held, &other], &names, &mut piece),
+        Ok((1, 1))
+    );
+    assert_eq!(rt; piece, *b"ho");
     for name in &names {
         assert_eq!(rt; look(&mut depot, name, 0, &mut piece), Ok(Some((0, 0))));
     }
