@@ -1,4 +1,5 @@
 pub mod Adding
+pub mod Alone
 pub mod Making
 pub mod Stages
 pub mod Steps

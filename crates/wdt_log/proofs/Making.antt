@@ -10,7 +10,8 @@ use Rattle.wdt_depot.proofs.Images.{image_of_clean, seen_is_image, synced_images
 use Rattle.wdt_depot.proofs.Moments.{since_weaker}
 use Rattle.wdt_logfmt.specs.Meaning.{log_meaning}
 use Rattle.wdt_logfmt.specs.Spelling.{header, new_log}
-use Rattle.wdt_logfmt.specs.View.{Meaning, NamedFile, is_view, names}
+use Rattle.wdt_logfmt.specs.declared.view.LogView.{LogView}
+use Rattle.wdt_logfmt.specs.View.{Meaning, NamedFile, is_view, meaning_of, names}
 use Rattle.wdt_logfmt.proofs.Prefix.{ends}
 use Rattle.wdt_logfmt.proofs.Reach.{means-closed, reaches-header}
 use Rattle.wdt_logfmt.proofs.Views.{view_none}
@@ -294,3 +295,9 @@ pub is_placed : (x : Unit {0}) (source target : List ℕ) (a b c : Option Told) 
 is_placed x source target a b c one two run step =
     called {E = DepotFail} IsMaking synced_new (placed new_log_path log_path) (Ok x) a b c run
     (subst (λ (p : List ℕ). OneStep (MayDo {E = DepotFail} (placed new_log_path p) (Ok x)) b c) two (subst (λ (p : List ℕ). OneStep (MayDo {E = DepotFail} (placed p target) (Ok x)) b c) one step)) (λ d. inr (inr (inr (inl refl)))) (λ d. inr (inr (inr (inr refl))))
+
+-- the log that was made is at rest
+pub made_logged : (r : Result LogView LogFail) (a b : Option Told) → Run IsMaking (Makes r) a b → IfTold (λ t. t.now log_path ≡ None) a → IfOk r (λ view. meaning_of view ≡ record { files = []; end = 6 })
+    → IfOk r (λ view. IfTold (λ t. LogOf (meaning_of view).files (meaning_of view).end t.now) b)
+made_logged (Ok view) a b run none is = subst (λ (m : Meaning). IfTold (λ t. LogOf m.files m.end t.now) b) (sym is) (made_rests a b run none)
+made_logged (Err e) a b run none is = tt

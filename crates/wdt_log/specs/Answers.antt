@@ -1,5 +1,5 @@
 -- What the log's calls answer.
-use Rattle.std.specs.Prelude.{◌≡◌, Bool, Option, Result, Err, IsErrOf, is_ok}
+use Rattle.std.specs.Prelude.{◌≡◌, Bool, true, false, Option, Result, Ok, Err, IsErrOf, is_ok}
 use Rattle.wdt_depot.specs.Disk.{seen_of}
 use Rattle.wdt_depot.specs.Moments.{IfTold, Told}
 use Rattle.wdt_depot.specs.Programs.{Calls, Drive, IsQuiet, drive_of}
@@ -9,6 +9,7 @@ use Rattle.wdt_depot.specs.declared.failure.DepotFail.TheVariants as depot
 use Rattle.wdt_logfmt.specs.declared.fails.ReadLogFail.{ReadLogFail}
 use Rattle.wdt_logfmt.specs.declared.fails.ReadLogFail.TheVariants as reading
 use Rattle.wdt_good.specs.Good.{log_of}
+use Rattle.wdt_log.specs.Opening.{run_open}
 use Rattle.wdt_log.specs.declared.fail.LogFail.{LogFail}
 use Rattle.wdt_log.specs.declared.fail.LogFail.TheVariants.{Disk as DiskFail, BadLog, Shut, NoMemory}
 
@@ -42,3 +43,13 @@ IsOpeningFail told fail = Unit {0}
 -- a call ran this program, unless it was refused for memory or an own fault came
 abbrev pub RanLog : {T : Type 0} → (Drive → Bool × Drive) → Result T LogFail → State → State → Type 0
 RanLog f result old new = (IsErrOf result NoMemory → ⊥) → IsQuiet old new → Calls f (is_ok result) (drive_of old) (drive_of new)
+
+-- an opening ran to its end, also where the log that is there has no meaning
+abbrev pub ran_well : {T : Type 0} → Result T LogFail → Bool
+ran_well (Ok x) = true
+ran_well (Err (BadLog at)) = true
+ran_well (Err fail) = false
+
+-- an opening ran its program, unless it was refused for memory or an own fault came
+abbrev pub RanOpening : {T : Type 0} → Result T LogFail → State → State → Type 0
+RanOpening result old new = (IsErrOf result NoMemory → ⊥) → IsQuiet old new → Calls run_open (ran_well result) (drive_of old) (drive_of new)

@@ -1,4 +1,5 @@
 pub mod OpenLog
+pub mod Others
 pub mod Stages
 pub mod Answers
 pub mod Places

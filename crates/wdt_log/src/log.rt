@@ -1,5 +1,5 @@
 //! An open log.
-ghost use Rattle.std.specs.Prelude.{◌≡◌, ◌⊎◌, ◌↔◌, ◌+◌, ◌<◌, ◌^◌, false, [], List, length, IfErr, IfOk, IsErrOf, IsTrue, OnErr, OnOk, Some};
+ghost use Rattle.std.specs.Prelude.{◌≡◌, ◌⊎◌, ◌↔◌, ◌+◌, ◌<◌, ◌^◌, false, [], List, length, IfErr, IfOk, IsErrOf, IsTrue, None, OnErr, OnOk, Some};
 ghost use Rattle.wdt_units.specs.Tree.{File};
 ghost use Rattle.wdt_depot.specs.Disk.{seen_of};
 ghost use Rattle.wdt_depot.specs.Moments.{IfTold};
@@ -7,12 +7,13 @@ ghost use Rattle.wdt_depot.specs.State.{Counts};
 ghost use Rattle.wdt_logfmt.specs.Adding.{all_added};
 ghost use Rattle.wdt_logfmt.specs.Spelling.{closed_batch, spell_all, written_version};
 ghost use Rattle.wdt_logfmt.specs.View.{NamedFile, is_view, meaning_of, named_files};
-ghost use Rattle.wdt_good.specs.Good.{log_path};
+ghost use Rattle.wdt_good.specs.Good.{log_path, new_log_path};
 ghost use Rattle.wdt_good.specs.LogState.{IsReady, LogOf};
 ghost use Rattle.wdt_good.specs.Logged.{AllFit, GoodSince};
-ghost use Rattle.wdt_log.specs.Answers.{IsNotBad, IsOpeningFail, RanLog};
+ghost use Rattle.wdt_log.specs.Answers.{IsNotBad, IsOpeningFail, RanLog, RanOpening};
 ghost use Rattle.wdt_log.specs.OpenLog.{Continues};
 ghost use Rattle.wdt_log.specs.Opening.{OpensAs};
+ghost use Rattle.wdt_log.specs.Others.{OthersStand, SlipsStand};
 ghost use Rattle.wdt_log.specs.Stages.{run_append};
 
 use crate::fail::LogFail;
@@ -24,27 +25,35 @@ use wdt_depot::Depot;
 use wdt_logfmt::{LogEntry, LogView};
 use wdt_units::Name;
 
+/// The path of the log.
+const LOG: [u8; 5] = *b".wlog";
+
+/// Where a new log is written, before it is put in place.
+const NEW_LOG: [u8; 9] = *b".wlog.new";
+
 /// An open log, seen as what it means and whether a call on it failed.
 #[derive(Debug, Drop)]
 pub struct Log {
     view: LogView,
     // A call on this log answered `Disk`.
     shut: bool,
-    // Where the log is. The name is kept, so that an append makes none.
+    // Where the log is, and where a new one is written. The names are kept, so that no later call
+    // takes memory for them.
     path: Name,
+    new_path: Name,
 }
 
 impl Model for Log {
     ghost use Rattle.std.specs.Prelude.{◌≡◌, ◌<◌, ◌^◌, IsTrue};
     ghost use Rattle.wdt_logfmt.specs.View.{is_view, meaning_of, named_files};
-    ghost use Rattle.wdt_good.specs.Good.{log_path};
+    ghost use Rattle.wdt_good.specs.Good.{log_path, new_log_path};
     ghost use Rattle.wdt_log.specs.OpenLog.{OpenLog};
 
     ghost Value = { OpenLog };
 
     ghost view = { λ l. record { meaning = meaning_of l.view; shut = l.shut } };
 
-    ghost invariant = { λ l. IsTrue (is_view (named_files l.view.files.items)) × (l.view.end < 2 ^ 63) × (l.path ≡ log_path) };
+    ghost invariant = { λ l. IsTrue (is_view (named_files l.view.files.items)) × (l.view.end < 2 ^ 63) × (l.path ≡ log_path) × (l.new_path ≡ new_log_path) };
 }
 
 impl Log {
@@ -65,14 +74,21 @@ impl Log {
         ensures means { IfOk result (λ log. IfTold (λ t. OpensAs (seen_of t.now log_path) log.meaning) (D.state depot.old).told) }
         ensures open { IfOk result (λ log. log.shut ≡ false) }
         ensures refused { IfErr result (λ fail. IsOpeningFail (D.state depot.old).told fail) }
+        ensures others { OthersStand (D.state depot.old).told (D.state depot.new).told }
+        ensures exact { RanOpening result (D.state depot.old) (D.state depot.new) }
+        ensures up { OnOk result ((D.state depot.new).stop.struck ≡ None) }
         ensures spots { (D.state depot.new).spots ≡ [] }
         ensures counts { Counts (IsErrOf result LogFail.Disk) (D.state depot.old) (D.state depot.new) }
+        ensures slips { SlipsStand (D.state depot.old) (D.state depot.new) }
     {
-        let (view, path) = find(alloc, depot)?;
+        let path = Name::of_lawful(alloc, &LOG)?;
+        let new_path = Name::of_lawful(alloc, &NEW_LOG)?;
+        let view = find(alloc, depot, &path, &new_path)?;
         Ok(Log {
             view,
             shut: false,
             path,
+            new_path,
         })
     }
 
@@ -115,9 +131,12 @@ impl Log {
         ensures untouched { IsTrue (self.old).shut → D.state depot.new ≡ D.state depot.old }
         ensures not_bad { IfErr result (λ fail. IsNotBad fail) }
 
+        ensures others { OthersStand (D.state depot.old).told (D.state depot.new).told }
         ensures exact { (IsTrue (self.old).shut → ⊥) → RanLog (run_append (self.old).meaning.end (closed_batch batch.now)) result (D.state depot.old) (D.state depot.new) }
+        ensures up { OnOk result ((D.state depot.new).stop.struck ≡ None) }
         ensures spots { (D.state depot.new).spots ≡ [] }
         ensures counts { Counts (IsErrOf result LogFail.Disk) (D.state depot.old) (D.state depot.new) }
+        ensures slips { IfTold (λ t. LogOf (self.old).meaning.files (self.old).meaning.end t.now) (D.state depot.old).told → SlipsStand (D.state depot.old) (D.state depot.new) }
     {
         if self.shut {
             return Err(LogFail::Shut);

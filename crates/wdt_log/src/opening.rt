@@ -10,50 +10,51 @@ ghost use Rattle.wdt_logfmt.specs.View.{is_view, meaning_of, named_files};
 ghost use Rattle.wdt_good.specs.Good.{log_path, new_log_path};
 ghost use Rattle.wdt_good.specs.LogState.{LogOf};
 ghost use Rattle.wdt_good.specs.Logged.{AllFit, GoodSince};
-ghost use Rattle.wdt_log.specs.Answers.{IsOfDepot, IsOpeningFail};
-ghost use Rattle.wdt_log.specs.Opening.{IsMaking, IsSyncing, Makes, OpensAs, Syncs};
+ghost use Rattle.wdt_log.specs.Answers.{IsOfDepot, IsOpeningFail, RanLog, RanOpening};
+ghost use Rattle.wdt_log.specs.Opening.{IsMaking, IsSyncing, Makes, OpensAs, Syncs, run_look, run_making, run_reading};
+ghost use Rattle.wdt_log.specs.Others.{OthersStand, SlipsStand};
 
 use crate::fail::LogFail;
 use crate::writing::put;
 use std::alloc::Global;
 use wdt_depot::{Depot, read_whole};
 use wdt_logfmt::{LogView, read_log};
-use wdt_units::{Name, NoMemory, Spot};
-
-/// The path of the log.
-const LOG: [u8; 5] = *b".wlog";
-
-/// Where a new log is written, before it is put in place.
-const NEW_LOG: [u8; 9] = *b".wlog.new";
+use wdt_units::{Name, Spot};
 
 /// The bytes of a log that names no file: the header, and a closed gate.
 const EMPTY: [u8; 7] = *b"WDTL\0\x01\0";
 
-/// What the log of the depot says, which is at the path that is given back. Where no log is there, one
-/// is made.
-pub fn find<D: Depot>(alloc: Global, depot: &mut D) -> Result<(LogView, Name), LogFail>
+/// What the log at this path says. Where no log is there, one is made at the second path, and put
+/// there.
+pub fn find<D: Depot>(
+    alloc: Global,
+    depot: &mut D,
+    log: &Name,
+    new: &Name,
+) -> Result<LogView, LogFail>
+    requires path { log.now ≡ log_path }
+    requires new_path { new.now ≡ new_log_path }
     requires spots { (D.state depot.old).spots ≡ [] }
     ensures images { (T : List File) → IfTold (λ t. AllFit T t.now) (D.state depot.old).told → GoodSince T [] (D.state depot.old).told (D.state depot.new).told }
-    ensures logged { IfOk result (λ found. IfTold (λ t. LogOf (meaning_of found.0).files (meaning_of found.0).end t.now) (D.state depot.new).told) }
-    ensures means { IfOk result (λ found. IfTold (λ t. OpensAs (seen_of t.now log_path) (meaning_of found.0)) (D.state depot.old).told) }
-    ensures view { IfOk result (λ found. IsTrue (is_view (named_files (found.0).files.items))) }
-    ensures room { IfOk result (λ found. (found.0).end < 2 ^ 63) }
-    ensures path { IfOk result (λ found. found.1 ≡ log_path) }
+    ensures logged { IfOk result (λ view. IfTold (λ t. LogOf (meaning_of view).files (meaning_of view).end t.now) (D.state depot.new).told) }
+    ensures means { IfOk result (λ view. IfTold (λ t. OpensAs (seen_of t.now log_path) (meaning_of view)) (D.state depot.old).told) }
+    ensures view { IfOk result (λ view. IsTrue (is_view (named_files view.files.items))) }
+    ensures room { IfOk result (λ view. view.end < 2 ^ 63) }
     ensures refused { IfErr result (λ fail. IsOpeningFail (D.state depot.old).told fail) }
+    ensures others { OthersStand (D.state depot.old).told (D.state depot.new).told }
+    ensures exact { RanOpening result (D.state depot.old) (D.state depot.new) }
+    ensures up { OnOk result ((D.state depot.new).stop.struck ≡ None) }
     ensures spots { (D.state depot.new).spots ≡ [] }
     ensures counts { Counts (IsErrOf result LogFail.Disk) (D.state depot.old) (D.state depot.new) }
+    ensures slips { SlipsStand (D.state depot.old) (D.state depot.new) }
 {
-    let path = Name::of_lawful(alloc, &LOG)?;
-    let found = read(alloc, depot, &path)?;
+    let found = read(alloc, depot, log)?;
     match found {
         Some(bytes) => {
             let view = read_log(alloc, &bytes)?;
-            Ok((view, path))
+            Ok(view)
         }
-        None => {
-            let view = make(alloc, depot, &path)?;
-            Ok((view, path))
-        }
+        None => make(alloc, depot, log, new),
     }
 }
 
@@ -64,9 +65,12 @@ fn read<D: Depot>(alloc: Global, depot: &mut D, log: &Name) -> Result<Option<Vec
     ensures bytes { IfOk result (λ found. IfTold (λ t. MatchOption found (t.now log_path ≡ None) (λ bytes. seen_of t.now log_path ≡ Some bytes.items)) (D.state depot.old).told) }
     ensures none { IfOk result (λ found. MatchOption found ((D.state depot.new).told ≡ (D.state depot.old).told) (λ _. Run IsSyncing (λ d x. x ≡ synced_at log_path d) (D.state depot.old).told (D.state depot.new).told)) }
     ensures moments { Run IsSyncing IsSyncing (D.state depot.old).told (D.state depot.new).told }
+    ensures exact { RanLog run_look result (D.state depot.old) (D.state depot.new) }
+    ensures up { OnOk result ((D.state depot.new).stop.struck ≡ None) }
     ensures spots { (D.state depot.new).spots ≡ [] }
     ensures never { IfErr result (λ fail. IsOfDepot fail) }
     ensures counts { Counts (IsErrOf result LogFail.Disk) (D.state depot.old) (D.state depot.new) }
+    ensures slips { (D.state depot.new).slips ≡ (D.state depot.old).slips }
 {
     let Some(spot) = depot.enter(log)? else {
         return Ok(None);
@@ -81,9 +85,12 @@ fn read_synced<D: Depot>(alloc: Global, depot: &mut D, spot: Spot) -> Result<Vec
     requires path { at_spot spot.0 (D.state depot.old) ≡ log_path }
     ensures bytes { IfOk result (λ bytes. IfFileAt (λ f. f.seen ≡ bytes.items) log_path (D.state depot.old)) }
     ensures moments { Run IsSyncing (Syncs result) (D.state depot.old).told (D.state depot.new).told }
+    ensures exact { RanLog run_reading result (D.state depot.old) (D.state depot.new) }
+    ensures up { OnOk result ((D.state depot.new).stop.struck ≡ None) }
     ensures spots { (D.state depot.new).spots ≡ (D.state depot.old).spots }
     ensures never { IfErr result (λ fail. IsOfDepot fail) }
     ensures counts { Counts (IsErrOf result LogFail.Disk) (D.state depot.old) (D.state depot.new) }
+    ensures slips { (D.state depot.new).slips ≡ (D.state depot.old).slips }
 {
     depot.sync(spot)?;
     let bytes = read_whole(alloc, depot, spot)?;
@@ -91,22 +98,25 @@ fn read_synced<D: Depot>(alloc: Global, depot: &mut D, spot: Spot) -> Result<Vec
 }
 
 // Makes a log that names no file, beside its place, and puts it there once it is on the disk.
-fn make<D: Depot>(alloc: Global, depot: &mut D, log: &Name) -> Result<LogView, LogFail>
+fn make<D: Depot>(alloc: Global, depot: &mut D, log: &Name, new: &Name) -> Result<LogView, LogFail>
     requires path { log.now ≡ log_path }
+    requires new_path { new.now ≡ new_log_path }
     requires spots { (D.state depot.old).spots ≡ [] }
     ensures moments { Run IsMaking (Makes result) (D.state depot.old).told (D.state depot.new).told }
     ensures view { IfOk result (λ view. meaning_of view ≡ record { files = []; end = 6 }) }
+    ensures exact { RanLog run_making result (D.state depot.old) (D.state depot.new) }
+    ensures up { OnOk result ((D.state depot.new).stop.struck ≡ None) }
     ensures spots { (D.state depot.new).spots ≡ [] }
     ensures never { IfErr result (λ fail. IsOfDepot fail) }
     ensures counts { Counts (IsErrOf result LogFail.Disk) (D.state depot.old) (D.state depot.new) }
+    ensures slips { SlipsStand (D.state depot.old) (D.state depot.new) }
 {
-    let new = Name::of_lawful(alloc, &NEW_LOG)?;
-    depot.make(&new)?;
-    let spot = depot.need(&new)?;
+    depot.make(new)?;
+    let spot = depot.need(new)?;
     let result = put(depot, spot, 0, &EMPTY);
     depot.leave(spot);
     result?;
-    depot.put_in_place(&new, log)?;
+    depot.put_in_place(new, log)?;
     let files = Vec::new(alloc);
     Ok(LogView { files, end: 6 })
 }

@@ -1,13 +1,14 @@
 //! The calls of an append.
-ghost use Rattle.std.specs.Prelude.{◌≡◌, ◌⊎◌, ◌+◌, ◌<◌, ◌≤◌, ◌^◌, [], length, IfErr, IsErrOf, IsTrue, OnErr, OnOk, Some};
-ghost use Rattle.wdt_depot.specs.Moments.{Run};
-ghost use Rattle.wdt_depot.specs.State.{Counts, IsEntered, at_spot};
+ghost use Rattle.std.specs.Prelude.{◌≡◌, ◌⊎◌, ◌+◌, ◌<◌, ◌≤◌, ◌^◌, false, [], length, IfErr, IsErrOf, IsTrue, None, OnErr, OnOk, Some};
+ghost use Rattle.wdt_depot.specs.Moments.{IfTold, Run};
+ghost use Rattle.wdt_depot.specs.State.{Counts, IsEntered, at_spot, is_far};
 ghost use Rattle.wdt_logfmt.specs.Adding.{all_added};
 ghost use Rattle.wdt_logfmt.specs.Spelling.{closed_batch, spell_all, written_version, AllFit};
 ghost use Rattle.wdt_logfmt.specs.View.{is_view, meaning_of, named_files};
 ghost use Rattle.wdt_good.specs.Good.{log_path};
 ghost use Rattle.wdt_log.specs.Answers.{IsOfDepot, RanLog};
 ghost use Rattle.wdt_log.specs.OpenLog.{Continues};
+ghost use Rattle.wdt_log.specs.Others.{SlipsStandAt};
 ghost use Rattle.wdt_log.specs.Stages.{IsPut, IsStage, Leaves, Puts, run_append, run_four, run_put};
 
 use crate::extending::extended;
@@ -43,6 +44,8 @@ pub fn append_to<D: Depot>(
     ensures exact { RanLog (run_append (view.old).end (closed_batch batch.now)) result (D.state depot.old) (D.state depot.new) }
     ensures spots { (D.state depot.new).spots ≡ [] }
     ensures counts { Counts (IsErrOf result LogFail.Disk) (D.state depot.old) (D.state depot.new) }
+    ensures up { OnOk result ((D.state depot.new).stop.struck ≡ None) }
+    ensures slips { SlipsStandAt log_path ((view.old).end + 1) (D.state depot.old) (D.state depot.new) }
 {
     let mut bytes = Vec::new(alloc);
     write_batch(batch, &mut bytes)?;
@@ -64,6 +67,8 @@ fn write<D: Depot>(depot: &mut D, log: &Name, end: u64, batch: &[u8]) -> Result<
     ensures never { IfErr result (λ fail. IsOfDepot fail) }
     ensures spots { (D.state depot.new).spots ≡ [] }
     ensures counts { Counts (IsErrOf result LogFail.Disk) (D.state depot.old) (D.state depot.new) }
+    ensures up { OnOk result ((D.state depot.new).stop.struck ≡ None) }
+    ensures slips { SlipsStandAt log_path (end + 1) (D.state depot.old) (D.state depot.new) }
 {
     let spot = depot.need(log)?;
     let result = write_at(depot, spot, end, batch);
@@ -82,6 +87,8 @@ fn write_at<D: Depot>(depot: &mut D, spot: Spot, end: u64, batch: &[u8]) -> Resu
     ensures never { IfErr result (λ fail. IsOfDepot fail) }
     ensures spots { (D.state depot.new).spots ≡ (D.state depot.old).spots }
     ensures counts { Counts (IsErrOf result LogFail.Disk) (D.state depot.old) (D.state depot.new) }
+    ensures up { OnOk result ((D.state depot.new).stop.struck ≡ None) }
+    ensures slips { SlipsStandAt log_path (end + 1) (D.state depot.old) (D.state depot.new) }
 {
     put(depot, spot, end + 1, batch)?;
     put(depot, spot, end, &[1])
@@ -96,6 +103,8 @@ pub fn put<D: Depot>(depot: &mut D, spot: Spot, offset: u64, bytes: &[u8]) -> Re
     ensures never { IfErr result (λ fail. IsOfDepot fail) }
     ensures spots { (D.state depot.new).spots ≡ (D.state depot.old).spots }
     ensures counts { Counts (IsErrOf result LogFail.Disk) (D.state depot.old) (D.state depot.new) }
+    ensures up { OnOk result ((D.state depot.new).stop.struck ≡ None) }
+    ensures slips { IfTold (λ t. is_far (at_spot spot.0 (D.state depot.old)) offset (length bytes.now) t.now ≡ false → (D.state depot.new).slips ≡ (D.state depot.old).slips) (D.state depot.old).told }
 {
     depot.write_at(spot, offset, bytes)?;
     depot.sync(spot)?;

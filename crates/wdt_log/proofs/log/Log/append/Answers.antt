@@ -7,12 +7,13 @@ use Rattle.wdt_good.specs.LogState.{IsReady, LogOf}
 use Rattle.wdt_log.specs.OpenLog.{Continues, OpenLog}
 use Rattle.wdt_log.specs.Stages.{IsStage, Leaves}
 use Rattle.wdt_log.specs.declared.fail.LogFail.TheVariants.{NoMemory, Shut}
+use Rattle.wdt_log.proofs.Alone.{append_stands, slips_stand}
 use Rattle.wdt_log.proofs.Stages.{append_good, append_logged, append_same, not_bad, not_shut, told_same}
 use Rattle.wdt_log.proofs.Steps.{same_fail}
 use Rattle.wdt_log.proofs.log.Log.append.Goals as goal
 
 pub invariant_of-self : goal.invariant_of-self
-invariant_of-self g c = (c.in-Ok.ensures.view, c.in-Ok.ensures.room, c.self.invariant.2)
+invariant_of-self g c = (c.in-Ok.ensures.view, c.in-Ok.ensures.room, c.self.invariant.2, c.self.invariant.3)
 
 pub returns-in-Ok-clause-images : goal.returns-in-Ok-clause-images
 returns-in-Ok-clause-images g c T gs log ready =
@@ -63,3 +64,23 @@ returns-in-Err-clause-shut g c =
     let open_before = c.if-self.false in
     let same = ap (λ (l : OpenLog). l.shut) c.self.view_is in
     ((λ is. absurd (not_shut c.in-Err.fail c.in-Err.ensures.never (same_fail 0 [] c.in-Err.fail Shut is))), (λ shut. absurd (cc)))
+
+pub returns-in-Ok-clause-others : goal.returns-in-Ok-clause-others
+returns-in-Ok-clause-others g c = append_stands c.append_to.result c.self.inside.view.end (closed_batch c.args.batch.now) _ _ c.append_to.ensures.moments
+
+pub returns-in-Ok-clause-slips : goal.returns-in-Ok-clause-slips
+returns-in-Ok-clause-slips g c log =
+    let s0 = g.D.Depot.state c.args.depot.now in
+    let v = c.self.inside.view in
+    let same : meaning_of v ≡ c.args.self.now.meaning = ap (λ (l : OpenLog). l.meaning) c.self.view_is in
+    slips_stand (named_files v.files.items) v.end s0 (g.D.Depot.state c.append_to.new.depot) (subst (λ (m : Meaning). IfTold (λ t. LogOf m.files m.end t.now) s0.told) (sym same) log) c.append_to.ensures.slips
+
+pub returns-in-Err-clause-others : goal.returns-in-Err-clause-others
+returns-in-Err-clause-others g c = append_stands c.append_to.result c.self.inside.view.end (closed_batch c.args.batch.now) _ _ c.append_to.ensures.moments
+
+pub returns-in-Err-clause-slips : goal.returns-in-Err-clause-slips
+returns-in-Err-clause-slips g c log =
+    let s0 = g.D.Depot.state c.args.depot.now in
+    let v = c.self.inside.view in
+    let same : meaning_of v ≡ c.args.self.now.meaning = ap (λ (l : OpenLog). l.meaning) c.self.view_is in
+    slips_stand (named_files v.files.items) v.end s0 (g.D.Depot.state c.append_to.new.depot) (subst (λ (m : Meaning). IfTold (λ t. LogOf m.files m.end t.now) s0.told) (sym same) log) c.append_to.ensures.slips
