@@ -70,71 +70,6 @@ put_at x (f ∷ fs) (suc at) place new =
 
 -- ---- a span more
 
--- the file at the place has the number, where there is one
-pub place_has : (n : ℕ) (s : PlainSpan) (fs : List LogFile) (at : ℕ) → IsPlace n (named_files fs) at → is_rising (named_files fs) ≡ true → list_any (is_room_in n s) (named_files fs) ≡ true → at < length fs
-place_has n s [] at place up room = absurd (cc)
-place_has n s (f ∷ fs) zero place up room = omega arith
-place_has n s (f ∷ fs) (suc at) place up room =
-    let u = and_parts (list_all (is_numbered_above (named_file f)) (named_files fs)) (is_rising (named_files fs)) up in
-    elim (or_cases (f.number == n && has_room s (have_file f.have)) (list_any (is_room_in n s) (named_files fs)) room) [
-      | inl here ↦ absurd (let e = eqb-true f.number n (and_parts (f.number == n) (has_room s (have_file f.have)) here).0 in omega (arith, place.0, e))
-      | inr later ↦ (let lt = place_has n s fs at place.1 u.1 later in omega (arith, lt))
-    ]
-
-others_kept : (n : ℕ) (s : PlainSpan) (f : LogFile) (fs : List LogFile) → n ≤ f.number → list_all (is_numbered_above (named_file f)) (named_files fs) ≡ true → map (covering n s) (named_files fs) ≡ named_files fs
-others_kept n s f [] le all = refl
-others_kept n s f (g ∷ fs) le all =
-    let a = and_parts (nat_lt f.number g.number) (list_all (is_numbered_above (named_file f)) (named_files fs)) all in
-    let lt = ltb-true f.number g.number a.0 in
-    rw (ne_eqb g.number n (λ e. omega (arith, lt, le, e))) (ap (λ (w : List NamedFile). named_file g ∷ w) (others_kept n s f fs le a.1))
-
-room_above : (n : ℕ) (s : PlainSpan) (f : LogFile) (fs : List LogFile) → list_all (is_numbered_above (named_file f)) (named_files fs) ≡ true → list_any (is_room_in n s) (named_files fs) ≡ true → f.number < n
-room_above n s f [] all any = absurd (cc)
-room_above n s f (g ∷ fs) all any =
-    let a = and_parts (nat_lt f.number g.number) (list_all (is_numbered_above (named_file f)) (named_files fs)) all in
-    elim (or_cases (g.number == n && has_room s (have_file g.have)) (list_any (is_room_in n s) (named_files fs)) any) [
-      | inl here ↦
-          let e = eqb-true g.number n (and_parts (g.number == n) (has_room s (have_file g.have)) here).0 in
-          let lt = ltb-true f.number g.number a.0 in
-          omega (arith, lt, e)
-      | inr later ↦ room_above n s f fs a.1 later
-    ]
-
-pub cover_at : (n : ℕ) (s : PlainSpan) (fs : List LogFile) (at : ℕ) (x : LogFile) (d : LogFile) → IsPlace n (named_files fs) at → is_rising (named_files fs) ≡ true → list_any (is_room_in n s) (named_files fs) ≡ true
-    → x.number ≡ (get_or fs at d).number → have_file x.have ≡ have_with s (have_file (get_or fs at d).have) → named_files (set fs at x) ≡ map (covering n s) (named_files fs)
-cover_at n s [] at x d place up room number have = absurd (cc)
-cover_at n s (f ∷ fs) zero x d place up room number have =
-    let u = and_parts (list_all (is_numbered_above (named_file f)) (named_files fs)) (is_rising (named_files fs)) up in
-    elim (or_cases (f.number == n && has_room s (have_file f.have)) (list_any (is_room_in n s) (named_files fs)) room) [
-      | inl here ↦
-          let h = and_parts (f.number == n) (has_room s (have_file f.have)) here in
-          rw h.0 (λ i. record { number = number i; have = have i } ∷ sym (others_kept n s f fs place u.0) i)
-      | inr later ↦ absurd (let lt = room_above n s f fs u.0 later in omega (arith, lt, place))
-    ]
-cover_at n s (f ∷ fs) (suc at) x d place up room number have =
-    let u = and_parts (list_all (is_numbered_above (named_file f)) (named_files fs)) (is_rising (named_files fs)) up in
-    elim (or_cases (f.number == n && has_room s (have_file f.have)) (list_any (is_room_in n s) (named_files fs)) room) [
-      | inl here ↦ absurd (let e = eqb-true f.number n (and_parts (f.number == n) (has_room s (have_file f.have)) here).0 in omega (arith, place.0, e))
-      | inr later ↦ rw (ne_eqb f.number n (λ e. omega (arith, place.0, e))) (ap (λ (w : List NamedFile). named_file f ∷ w) (cover_at n s fs at x d place.1 u.1 later number have))
-    ]
-
--- the file at the place of a span that can be covered
-file_apart : (fs : List LogFile) (at : ℕ) (d : LogFile) → at < length fs → list_all is_file (named_files fs) ≡ true → are_apart (have_file (get_or fs at d).have).spans ≡ true
-file_apart [] at d lt each = absurd (omega (arith, lt))
-file_apart (f ∷ fs) zero d lt each = (file_parts (named_file f) (and_parts (is_file (named_file f)) (list_all is_file (named_files fs)) each).0).apart
-file_apart (f ∷ fs) (suc at) d lt each = file_apart fs at d (omega (arith, lt)) (and_parts (is_file (named_file f)) (list_all is_file (named_files fs)) each).1
-
-pub record IsAt (n : ℕ) (s : PlainSpan) (fs : List LogFile) (at : ℕ) (d : LogFile) : Type 0 where
-  pub within : at < length fs
-  pub apart : are_apart (have_file (get_or fs at d).have).spans ≡ true
-
-pub at_place : (n : ℕ) (s : PlainSpan) (fs : List LogFile) (at : ℕ) (d : LogFile) → IsPlace n (named_files fs) at → is_view (named_files fs) ≡ true → can_cover (named_files fs) n s ≡ true → IsAt n s fs at d
-at_place n s fs at d place view can =
-    let v = view_parts (named_files fs) view in
-    let c = can_cover-parts (named_files fs) n s can in
-    let lt = place_has n s fs at place v.rising c.room in
-    record { within = lt; apart = file_apart fs at d lt v.each }
-
 -- the span lies within a file
 pub span_is : (n : ℕ) (s : PlainSpan) (fs : List NamedFile) → is_view fs ≡ true → can_cover fs n s ≡ true → is_span s ≡ true
 span_is n s fs view can = let c = can_cover-parts fs n s can in go fs (view_parts fs view).each c.room c.some
@@ -207,13 +142,6 @@ place_within n (f ∷ fs) (suc at) place = let le = place_within n fs at place.1
 pub have_is : (path : List ℕ) (size stamp : ℕ) (old new : List PlainSpan) (s : PlainSpan) → new ≡ with_span s old
     → record { path = path; size = size; stamp = stamp; spans = new } ≡ have_with s (record { path = path; size = size; stamp = stamp; spans = old })
 have_is path size stamp old new s is = ap (λ (spans : List PlainSpan). record { path = path; size = size; stamp = stamp; spans = spans }) is
-
-pub continues_at : (fs gs : List NamedFile) (es : List LogEntry) (i : ℕ) (e : LogEntry) → i < length es → e ≡ get_or es i e → all_added written_version fs (take i es) ≡ Some gs → IsSome (all_added written_version fs es) → IsSome (added written_version gs e)
-continues_at fs gs es i e lt is so_far some =
-    continues_next fs gs (take i es) e (drop (suc i) es) so_far (subst (λ (w : List LogEntry). IsSome (all_added written_version fs w)) (split_at es i e lt is) some)
-
-pub within_at : (n : ℕ) (s : PlainSpan) (fs : List LogFile) (at : ℕ) → IsPlace n (named_files fs) at → is_view (named_files fs) ≡ true → can_cover (named_files fs) n s ≡ true → at < length fs
-within_at n s fs at place view can = place_has n s fs at place (view_parts (named_files fs) view).rising (can_cover-parts (named_files fs) n s can).room
 
 pub on_ok : {T E : Type 0} (r : Result T E) (P Q : Type 0) → OnOk r P → (P → Q) → OnOk r Q
 on_ok (Ok x) P Q h f = f h

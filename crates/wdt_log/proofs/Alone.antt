@@ -91,13 +91,6 @@ module _ (d : Disk) where
 
 -- ---- told
 
-pub others_same : (a b : Option Told) → b ≡ a → OthersStand a b
-others_same a b is = subst (λ (x : Option Told). OthersStand a x) (sym is) (go a)
-  where
-    go : (x : Option Told) → OthersStand x x
-    go None = tt
-    go (Some t) = same_keeps t.now t.now refl
-
 run_stands : (P Q : Disk → Disk → Type 0) (a b : Option Told) → Run P Q a b → ((d x : Disk) → Q d x → KeepsOthers d x) → OthersStand a b
 run_stands P Q None None run keeps = tt
 run_stands P Q None (Some u) run keeps = run

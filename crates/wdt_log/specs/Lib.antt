@@ -4,3 +4,4 @@ pub mod Stages
 pub mod Answers
 pub mod Places
 pub mod Opening
+pub mod Touched

@@ -13,6 +13,8 @@ mod extending;
 mod fail;
 mod log;
 mod opening;
+#[cfg(test)]
+mod tests;
 mod writing;
 
 pub use fail::LogFail;

@@ -103,6 +103,9 @@ impl Log {
     /// Appends a batch of entries, which continue the view lawfully and have fewer than 2^32 bytes
     /// together. The depot is the one on which the log was opened.
     ///
+    /// The cost grows with the batch and the spans of the files that it touches, and not with the view.
+    /// Only a new file whose number is below others moves those in the list.
+    ///
     /// `Disk` comes only where the depot counted a fault, and shuts the log. `Shut` comes exactly where
     /// the log is shut, and no call is made then. After `NoMemory` the log means what it meant before.
     pub fn append<D: Depot>(

@@ -11,7 +11,7 @@ ghost use Rattle.wdt_log.specs.OpenLog.{Continues};
 ghost use Rattle.wdt_log.specs.Others.{SlipsStandAt};
 ghost use Rattle.wdt_log.specs.Stages.{IsPut, IsStage, Leaves, Puts, run_append, run_four, run_put};
 
-use crate::extending::extended;
+use crate::extending::{lay_all, touched};
 use crate::fail::LogFail;
 use std::alloc::Global;
 use wdt_depot::Depot;
@@ -49,9 +49,10 @@ pub fn append_to<D: Depot>(
 {
     let mut bytes = Vec::new(alloc);
     write_batch(batch, &mut bytes)?;
-    let files = extended(alloc, &view.files, batch)?;
+    let touched = touched(alloc, &view.files, batch)?;
+    view.files.reserve(touched.len())?;
     write(depot, log, view.end, &bytes)?;
-    view.files = files;
+    lay_all(&mut view.files, touched);
     view.end += bytes.len() as u64;
     Ok(())
 }

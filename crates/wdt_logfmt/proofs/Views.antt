@@ -103,7 +103,7 @@ below_all n f (g ∷ fs) lt all =
     let more = ltb-true f.number g.number a.0 in
     and_from (nat_lt n g.number) (list_all (λ g. nat_lt n g.number) fs) (lt-ltb n g.number (omega arith)) (below_all n f fs lt a.1)
 
-rising_put : (x : NamedFile) (fs : List NamedFile) → is_rising fs ≡ true → list_any (is_numbered x.number) fs ≡ false → is_rising (put_by_number x fs) ≡ true
+pub rising_put : (x : NamedFile) (fs : List NamedFile) → is_rising fs ≡ true → list_any (is_numbered x.number) fs ≡ false → is_rising (put_by_number x fs) ≡ true
 rising_put x [] up new = refl
 rising_put x (f ∷ fs) up new =
     let a = and_parts (list_all (is_numbered_above f) fs) (is_rising fs) up in

@@ -6,9 +6,9 @@ use Rattle.wdt_log.proofs.Adding.{place_within, put_at}
 use Rattle.wdt_log.proofs.extending.put.Goals as goal
 
 pub insert-requires : goal.insert-requires
-insert-requires c = let le = place_within c.args.file.number c.deref.result.now c.place-at.result c.place-at.ensures in omega (arith, le, c.deref.ensures.len)
+insert-requires c = let le = place_within c.args.file.number c.deref.result.now c.place-at.result c.place-at.ensures.place in omega (arith, le, c.deref.ensures.len)
 
 pub returns-clause-files : goal.returns-clause-files
 returns-clause-files c =
-    let place = subst (λ (fs : List LogFile). IsPlace c.args.file.number (named_files fs) c.place-at.result) c.deref.ensures.value c.place-at.ensures in
+    let place = subst (λ (fs : List LogFile). IsPlace c.args.file.number (named_files fs) c.place-at.result) c.deref.ensures.value c.place-at.ensures.place in
     ap named_files c.in_ok-insert.ensures.items ∙ put_at c.args.file c.args.files.now.items c.place-at.result place c.requires.new

@@ -1,6 +1,0 @@
-use Rattle.std.proofs.Common.{◌≡◌, take}
-use Rattle.wdt_logfmt.specs.View.{named_files}
-use Rattle.wdt_log.proofs.extending.copies.Given as goal
-
-abbrev pub invariant-loop-file : goal.invariant-loop-file
-invariant-loop-file l = named_files l.copies.items ≡ named_files (take l.file-index l.files)
