@@ -92,6 +92,10 @@ span_is n s fs view can = let c = can_cover-parts fs n s can in go fs (view_part
 
 -- ---- entry by entry
 
+pub some_is : {A : Type 0} (o : Option A) → IsSome o → (x : A) × (o ≡ Some x)
+some_is None some = absurd (cc)
+some_is (Some x) some = (x, refl)
+
 same_some : {A : Type 0} (x y : A) → Some x ≡ Some y → x ≡ y
 same_some x y e = cc
 

@@ -2,6 +2,7 @@ pub mod Adding
 pub mod Alone
 pub mod Laying
 pub mod Making
+pub mod Numbered
 pub mod Stages
 pub mod Steps
 pub mod Torn

@@ -25,6 +25,7 @@ use Rattle.wdt_log.specs.Answers.{IsNotBad, IsOfDepot}
 use Rattle.wdt_log.specs.declared.fail.LogFail.{LogFail}
 use Rattle.wdt_log.specs.declared.fail.LogFail.TheVariants.{Disk as DiskFail, BadLog, Shut, NoMemory}
 use Rattle.wdt_log.specs.Stages.{IsStage, opened, opening, staged, written}
+use Rattle.wdt_log.proofs.Adding.{some_is}
 use Rattle.wdt_log.proofs.Torn.{left_behind, left_gate, over, over_behind}
 
 -- ---- versions differ in nothing yet
@@ -217,10 +218,6 @@ module _ (fs gs : List NamedFile) (es : List LogEntry) (bytes : List ℕ) (batch
   ]
 
 -- ---- an append as its caller sees it
-
-some_is : {A : Type 0} (o : Option A) → IsSome o → (x : A) × (o ≡ Some x)
-some_is None some = absurd (cc)
-some_is (Some x) some = (x, refl)
 
 module _ (fs : List NamedFile) (es : List LogEntry) (end : ℕ) (small : length (spell_all es) < 2 ^ 32) where
   batch_of : (gs : List NamedFile) → AllSpelled es → all_added written_version fs es ≡ Some gs → IsBatch fs gs es (closed_batch es)

@@ -8,7 +8,7 @@ use std::alloc::Global;
 use std::process::Abort;
 use std::test::Fail;
 use wdt_depot::{Crash, Depot, DepotFail, MemDepot};
-use wdt_logfmt::LogEntry;
+use wdt_logfmt::{LogEntry, LogView};
 use wdt_ranges::Span;
 use wdt_units::Name;
 
@@ -133,6 +133,26 @@ fn count<D: Depot>(alloc: Global, depot: &mut D) -> Result<usize, LogFail>
     }
 }
 
+// What the log says once both are appended.
+fn assert_names_both(rt: &impl Abort, view: &LogView) {
+    assert_eq!(rt; view.files.len(), 2);
+    let a = &view.files[0];
+    assert_eq!(rt; (a.number, a.have.size, a.have.stamp), (0, 2, 0));
+    assert_eq!(rt; a.have.path.bytes(), b"a".as_slice());
+    assert_eq!(rt;
+        a.have.spans.spans(),
+        [Span {
+            offset: 0,
+            length: 2
+        }]
+        .as_slice()
+    );
+    let b = &view.files[1];
+    assert_eq!(rt; (b.number, b.have.size, b.have.stamp), (1, 0, 7));
+    assert_eq!(rt; b.have.path.bytes(), b"b".as_slice());
+    assert_eq!(rt; view.end, 81);
+}
+
 #[test]
 fn a_log_is_made_and_goes_on(rt: HostRuntime) -> Result<(), Fail> {
     let alloc = rt.alloc();
@@ -149,24 +169,8 @@ fn a_log_is_made_and_goes_on(rt: HostRuntime) -> Result<(), Fail> {
     }
     restart(&mut depot);
     let again = Log::open(alloc, &mut depot)?;
-    for view in [log.view(), again.view()] {
-        assert_eq!(rt; view.files.len(), 2);
-        let a = &view.files[0];
-        assert_eq!(rt; (a.number, a.have.size, a.have.stamp), (0, 2, 0));
-        assert_eq!(rt; a.have.path.bytes(), b"a".as_slice());
-        assert_eq!(rt;
-            a.have.spans.spans(),
-            [Span {
-                offset: 0,
-                length: 2
-            }]
-            .as_slice()
-        );
-        let b = &view.files[1];
-        assert_eq!(rt; (b.number, b.have.size, b.have.stamp), (1, 0, 7));
-        assert_eq!(rt; b.have.path.bytes(), b"b".as_slice());
-        assert_eq!(rt; view.end, 81);
-    }
+    assert_names_both(&rt, log.view());
+    assert_names_both(&rt, again.view());
     Ok(())
 }
 

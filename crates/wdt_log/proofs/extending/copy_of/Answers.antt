@@ -1,6 +1,6 @@
 use Rattle.std.proofs.Common.{◌∙◌, Some, ap, sym}
 use Rattle.wdt_units.specs.Have.{HaveFile}
-use Rattle.wdt_log.proofs.Laying.{at_numbered}
+use Rattle.wdt_log.proofs.Numbered.{at_numbered}
 use Rattle.wdt_log.proofs.extending.copy_of.Goals as goal
 
 pub returns-clause-have : goal.returns-clause-have

@@ -1,5 +1,5 @@
 use Rattle.std.proofs.Common.{rules}
-use Rattle.wdt_log.proofs.Laying.{end_none, found_at, other_none}
+use Rattle.wdt_log.proofs.Numbered.{end_none, found_at, other_none}
 use Rattle.wdt_log.proofs.extending.find.Goals as goal
 
 pub returns-then-at-files-clause-none : goal.returns-then-at-files-clause-none

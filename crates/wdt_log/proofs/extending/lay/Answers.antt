@@ -4,7 +4,8 @@ use Rattle.wdt_logfmt.specs.declared.view.LogFile.{LogFile}
 use Rattle.wdt_logfmt.specs.View.{is_rising, named_files}
 use Rattle.wdt_log.specs.Places.{IsPlace, is_at}
 use Rattle.wdt_log.specs.Touched.{numbered}
-use Rattle.wdt_log.proofs.Laying.{insert_at, set_at, when_ok}
+use Rattle.wdt_log.proofs.Laying.{when_ok}
+use Rattle.wdt_log.proofs.Numbered.{insert_at, set_at}
 use Rattle.wdt_log.proofs.extending.lay.Goals as goal
 
 pub index_mut-requires : goal.index_mut-requires

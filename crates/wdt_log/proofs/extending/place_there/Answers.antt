@@ -1,4 +1,4 @@
-use Rattle.wdt_log.proofs.Laying.{at_within, there_at}
+use Rattle.wdt_log.proofs.Numbered.{at_within, there_at}
 use Rattle.wdt_log.proofs.extending.place_there.Goals as goal
 
 pub returns-clause-at : goal.returns-clause-at

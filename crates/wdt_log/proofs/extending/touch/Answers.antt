@@ -5,7 +5,8 @@ use Rattle.wdt_logfmt.specs.View.{NamedFile, named_files}
 use Rattle.wdt_logfmt.proofs.Views.{view_parts}
 use Rattle.wdt_log.specs.Touched.{CanEnter, SameFiles, entered, laid, numbered}
 use Rattle.wdt_log.proofs.Adding.{on_ok}
-use Rattle.wdt_log.proofs.Laying.{cover_there, named_at, named_fresh, numbered_none}
+use Rattle.wdt_log.proofs.Laying.{cover_there, named_at, named_fresh}
+use Rattle.wdt_log.proofs.Numbered.{numbered_none}
 use Rattle.wdt_log.proofs.extending.touch.Goals as goal
 
 pub put-requires-clause-new : goal.put-requires-clause-new
