@@ -3,7 +3,7 @@
 ghost use Rattle.std.specs.Prelude.{◌≡◌, [], IfOk};
 ghost use Rattle.wdt_depot.specs.MemState.{mem_state};
 
-use crate::{Crash, Depot, DepotFail, MemDepot};
+use crate::{Crash, Depot, DepotFail, MemDepot, read_whole};
 use std::alloc::Global;
 use std::test::Fail;
 use wdt_tree::Plain;
@@ -54,6 +54,17 @@ fn look<D: Depot>(
             Ok(Some((length?, count?)))
         }
     }
+}
+
+// Reads a file whole through any depot.
+fn whole<D: Depot>(alloc: Global, depot: &mut D, path: &Name) -> Result<Vec<u8>, DepotFail>
+    requires { (D.state depot.old).spots ≡ [] }
+    ensures { (D.state depot.new).spots ≡ [] }
+{
+    let spot = depot.need(path)?;
+    let bytes = read_whole(alloc, depot, spot);
+    depot.leave(spot);
+    bytes
 }
 
 // Syncs a file through any depot.
@@ -122,6 +133,10 @@ fn writes_are_read_back(rt: HostRuntime) -> Result<(), Fail> {
         piece.truncate(want.len());
         assert_eq!(rt; piece.as_slice(), want);
     }
+    assert_eq!(rt;
+        whole(alloc, &mut depot, &x)?.as_slice(),
+        b"acd\0z".as_slice()
+    );
     let missing = Name::read(alloc, b"y/z")?;
     assert_eq!(rt; look(&mut depot, &missing, 0, &mut [0; 4]), Ok(None));
     assert_eq!(rt; put(&mut depot, &missing, 0, b"z"), Err(DepotFail::Failed));
