@@ -1,6 +1,6 @@
 pub mod Changes
 pub mod Disk
-pub mod Luck
+pub mod Health
 pub mod Memory
 pub mod MemState
 pub mod Moments

@@ -5,7 +5,7 @@ use Rattle.wdt_depot.specs.declared.memory.MemDepot.{MemDepot}
 use Rattle.wdt_depot.specs.declared.place.Place.{Place}
 use Rattle.wdt_depot.specs.declared.store.Store.{Store}
 use Rattle.wdt_depot.specs.Disk.{Disk, IfFile, IsSound, IsSoundDisk}
-use Rattle.wdt_depot.specs.Luck.{state_of}
+use Rattle.wdt_depot.specs.Health.{state_of}
 use Rattle.wdt_depot.specs.Memory.{told_in}
 use Rattle.wdt_depot.specs.Slots.{disk_of, file_of, slot_at, told_of}
 use Rattle.wdt_depot.specs.Spots.{all_placed, entered_view}
@@ -13,7 +13,7 @@ use Rattle.wdt_depot.specs.State.{SpotsStand, State, path_of, path_or}
 use Rattle.wdt_depot.specs.View.{index_of, slot_view}
 
 abbrev pub mem_state : MemDepot → State
-mem_state m = state_of (told_in m.store) m.luck (map entered_view m.spots.items)
+mem_state m = state_of (told_in m.store) m.health (map entered_view m.spots.items)
 
 -- its disk
 abbrev pub disk_in : MemDepot → Disk

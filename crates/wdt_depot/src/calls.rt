@@ -47,12 +47,12 @@ impl Depot for MemDepot {
     ghost state = { λ m. mem_state m };
 
     fn make(&mut self, path: &Name) -> Result<(), DepotFail> {
-        make_parts(&mut self.store, &mut self.luck, path)
+        make_parts(&mut self.store, &mut self.health, path)
     }
 
     fn enter(&mut self, path: &Name) -> Result<Option<Spot>, DepotFail> {
-        if self.luck.is_down() {
-            return Err(self.luck.fault());
+        if self.health.is_down() {
+            return Err(self.health.fault());
         }
         match place_of(&self.store.index, path) {
             None => Ok(None),
@@ -64,11 +64,11 @@ impl Depot for MemDepot {
     }
 
     fn need(&mut self, path: &Name) -> Result<Spot, DepotFail> {
-        if self.luck.is_down() {
-            return Err(self.luck.fault());
+        if self.health.is_down() {
+            return Err(self.health.fault());
         }
         match place_of(&self.store.index, path) {
-            None => Err(self.luck.own_fault(true)),
+            None => Err(self.health.own_fault(true)),
             Some(_) => {
                 let spot = push_spot(&mut self.spots, path)?;
                 Ok(spot)
@@ -81,16 +81,16 @@ impl Depot for MemDepot {
     }
 
     fn length(&mut self, spot: Spot) -> Result<u64, DepotFail> {
-        if self.luck.is_down() {
-            return Err(self.luck.fault());
+        if self.health.is_down() {
+            return Err(self.health.fault());
         }
         let place = self.place_at(spot);
         Ok(self.store.places[place].bytes.len() as u64)
     }
 
     fn read_at(&mut self, spot: Spot, offset: u64, into: &mut [u8]) -> Result<usize, DepotFail> {
-        if self.luck.is_down() {
-            return Err(self.luck.fault());
+        if self.health.is_down() {
+            return Err(self.health.fault());
         }
         let place = self.place_at(spot);
         Ok(copy_part(&self.store.places[place].bytes, offset, into))
@@ -98,19 +98,19 @@ impl Depot for MemDepot {
 
     fn write_at(&mut self, spot: Spot, offset: u64, bytes: &[u8]) -> Result<(), DepotFail> {
         let place = self.place_at(spot);
-        write_parts(&mut self.store, &mut self.luck, place, offset, bytes)
+        write_parts(&mut self.store, &mut self.health, place, offset, bytes)
     }
 
     fn sync(&mut self, spot: Spot) -> Result<(), Failed> {
         let place = self.place_at(spot);
-        match sync_parts(&mut self.store, &mut self.luck, place) {
+        match sync_parts(&mut self.store, &mut self.health, place) {
             Err(_) => Err(Failed),
             Ok(()) => Ok(()),
         }
     }
 
     fn put_in_place(&mut self, from: &Name, to: &Name) -> Result<(), DepotFail> {
-        place_parts(&mut self.store, &mut self.luck, from, to)
+        place_parts(&mut self.store, &mut self.health, from, to)
     }
 
     ghost sound = { λ m. sound_in m };

@@ -2,7 +2,7 @@
 // be done, then the calls that fail by their numbers.
 ghost use Rattle.std.specs.Prelude.{◌≡◌, ℕ, ◌+◌, ◌<◌, ◌^◌, nat_lt, ◌&&◌, List, length, false, IsErr, IsErrOf, OnErr, Some};
 ghost use Rattle.wdt_depot.specs.Disk.{made, placed, synced_at, wrote};
-ghost use Rattle.wdt_depot.specs.Luck.{state_of};
+ghost use Rattle.wdt_depot.specs.Health.{state_of};
 ghost use Rattle.wdt_depot.specs.Memory.{KeepsPaths, KeepsPathsBut, shelf_of, told_in};
 ghost use Rattle.wdt_depot.specs.Outcome.{Outcome};
 ghost use Rattle.wdt_depot.specs.Programs.{torn_write, when_odd};
@@ -12,32 +12,32 @@ ghost use Rattle.wdt_depot.specs.View.{slot_view};
 
 use crate::depot::MAX_END;
 use crate::failure::DepotFail;
+use crate::health::{Health, Turn};
 use crate::index::place_of;
-use crate::luck::{Luck, Turn};
 use crate::place::Place;
 use crate::store::Store;
 use wdt_units::{MAX_FILE_SIZE, Name};
 
 // A file is made.
-pub fn make_parts(store: &mut Store, luck: &mut Luck, path: &Name) -> Result<(), DepotFail>
-    ensures outcome { (es : List (ℕ × List ℕ)) → Outcome false (made path.now) (when_odd (made path.now)) result (state_of (told_in store.old) luck.old es) (state_of (told_in store.new) luck.new es) }
+pub fn make_parts(store: &mut Store, health: &mut Health, path: &Name) -> Result<(), DepotFail>
+    ensures outcome { (es : List (ℕ × List ℕ)) → Outcome false (made path.now) (when_odd (made path.now)) result (state_of (told_in store.old) health.old es) (state_of (told_in store.new) health.new es) }
     ensures paths { KeepsPaths (shelf_of store.old).index (shelf_of store.new).index }
 {
-    if luck.is_down() {
-        return Err(luck.fault());
+    if health.is_down() {
+        return Err(health.fault());
     }
-    match luck.turn() {
-        Turn::Fails => Err(luck.refuse(Turn::Fails, false)),
+    match health.turn() {
+        Turn::Fails => Err(health.refuse(Turn::Fails, false)),
         Turn::Strikes(pick) => {
             if pick % 2 != 1 {
-                return Err(luck.strike(pick));
+                return Err(health.strike(pick));
             }
             store.make_one(path)?;
-            Err(luck.strike(pick))
+            Err(health.strike(pick))
         }
         Turn::Goes => {
             store.make_one(path)?;
-            luck.count();
+            health.count();
             Ok(())
         }
     }
@@ -46,32 +46,32 @@ pub fn make_parts(store: &mut Store, luck: &mut Luck, path: &Name) -> Result<(),
 // A file is put in place. From and to the same path there is nothing to do.
 pub fn place_parts(
     store: &mut Store,
-    luck: &mut Luck,
+    health: &mut Health,
     from: &Name,
     to: &Name,
 ) -> Result<(), DepotFail>
-    ensures outcome { (es : List (ℕ × List ℕ)) → Outcome (lacks from.now (told_in store.old).now) (placed from.now to.now) (when_odd (placed from.now to.now)) result (state_of (told_in store.old) luck.old es) (state_of (told_in store.new) luck.new es) }
+    ensures outcome { (es : List (ℕ × List ℕ)) → Outcome (lacks from.now (told_in store.old).now) (placed from.now to.now) (when_odd (placed from.now to.now)) result (state_of (told_in store.old) health.old es) (state_of (told_in store.new) health.new es) }
     ensures paths { KeepsPathsBut from.now (shelf_of store.old).index (shelf_of store.new).index }
 {
-    if luck.is_down() {
-        return Err(luck.fault());
+    if health.is_down() {
+        return Err(health.fault());
     }
-    let turn = luck.turn();
+    let turn = health.turn();
     let Some(at) = place_of(&store.index, from) else {
-        return Err(luck.refuse(turn, true));
+        return Err(health.refuse(turn, true));
     };
     match turn {
-        Turn::Fails => Err(luck.refuse(Turn::Fails, false)),
+        Turn::Fails => Err(health.refuse(Turn::Fails, false)),
         Turn::Strikes(pick) => {
             if pick % 2 != 1 {
-                return Err(luck.strike(pick));
+                return Err(health.strike(pick));
             }
             store.move_one(from, to, at)?;
-            Err(luck.strike(pick))
+            Err(health.strike(pick))
         }
         Turn::Goes => {
             store.move_one(from, to, at)?;
-            luck.count();
+            health.count();
             Ok(())
         }
     }
@@ -80,33 +80,33 @@ pub fn place_parts(
 // A write.
 pub fn write_parts(
     store: &mut Store,
-    luck: &mut Luck,
+    health: &mut Health,
     at: usize,
     offset: u64,
     bytes: &[u8],
 ) -> Result<(), DepotFail>
     requires within { at < length store.old.places.items }
-    ensures outcome { (path : List ℕ) (es : List (ℕ × List ℕ)) → (shelf_of store.old).index path ≡ Some at → Outcome (is_far path offset (length bytes.now) (told_in store.old).now) (wrote path offset bytes.now) (torn_write path offset bytes.now) result (state_of (told_in store.old) luck.old es) (state_of (told_in store.new) luck.new es) }
+    ensures outcome { (path : List ℕ) (es : List (ℕ × List ℕ)) → (shelf_of store.old).index path ≡ Some at → Outcome (is_far path offset (length bytes.now) (told_in store.old).now) (wrote path offset bytes.now) (torn_write path offset bytes.now) result (state_of (told_in store.old) health.old es) (state_of (told_in store.new) health.new es) }
     ensures past_end { 2 ^ 41 < offset + length bytes.now → IsErr result × told_in store.new ≡ told_in store.old }
     ensures index { store.new.index ≡ store.old.index }
 {
-    if luck.is_down() {
-        return Err(luck.fault());
+    if health.is_down() {
+        return Err(health.fault());
     }
-    let turn = luck.turn();
+    let turn = health.turn();
     if is_past_end(offset, bytes.len()) {
         let far = is_behind(&store.places[at], offset);
-        return Err(luck.refuse(turn, far));
+        return Err(health.refuse(turn, far));
     }
     match turn {
-        Turn::Fails => Err(luck.refuse(Turn::Fails, false)),
+        Turn::Fails => Err(health.refuse(Turn::Fails, false)),
         Turn::Strikes(pick) => {
             store.write_one(at, offset as usize, bytes)?;
-            Err(luck.strike(pick))
+            Err(health.strike(pick))
         }
         Turn::Goes => {
             store.write_one(at, offset as usize, bytes)?;
-            luck.count();
+            health.count();
             Ok(())
         }
     }
@@ -130,22 +130,22 @@ fn is_behind(place: &Place, offset: u64) -> bool
 }
 
 // A sync. It takes no memory, so it never answers the want of it.
-pub fn sync_parts(store: &mut Store, luck: &mut Luck, at: usize) -> Result<(), DepotFail>
+pub fn sync_parts(store: &mut Store, health: &mut Health, at: usize) -> Result<(), DepotFail>
     requires { at < length store.old.places.items }
-    ensures outcome { (path : List ℕ) (es : List (ℕ × List ℕ)) → (shelf_of store.old).index path ≡ Some at → Outcome false (synced_at path) (λ pick d. d) result (state_of (told_in store.old) luck.old es) (state_of (told_in store.new) luck.new es) }
+    ensures outcome { (path : List ℕ) (es : List (ℕ × List ℕ)) → (shelf_of store.old).index path ≡ Some at → Outcome false (synced_at path) (λ pick d. d) result (state_of (told_in store.old) health.old es) (state_of (told_in store.new) health.new es) }
     ensures memory { IsErrOf result DepotFail.NoMemory → ⊥ }
     ensures kept { OnErr result (told_in store.new ≡ told_in store.old) }
     ensures index { store.new.index ≡ store.old.index }
 {
-    if luck.is_down() {
-        return Err(luck.fault());
+    if health.is_down() {
+        return Err(health.fault());
     }
-    match luck.turn() {
-        Turn::Fails => Err(luck.refuse(Turn::Fails, false)),
-        Turn::Strikes(pick) => Err(luck.strike(pick)),
+    match health.turn() {
+        Turn::Fails => Err(health.refuse(Turn::Fails, false)),
+        Turn::Strikes(pick) => Err(health.strike(pick)),
         Turn::Goes => {
             store.sync_one(at);
-            luck.count();
+            health.count();
             Ok(())
         }
     }

@@ -8,8 +8,8 @@ ghost use Rattle.wdt_depot.specs.Memory.{told_in};
 
 use crate::content::new_place;
 use crate::failure::DepotFail;
+use crate::health::Health;
 use crate::index::{place_of, point};
-use crate::luck::Luck;
 use crate::memory::MemDepot;
 use crate::store::Store;
 use std::alloc::Global;
@@ -54,7 +54,7 @@ impl MemDepot {
         }
         Ok(MemDepot {
             store,
-            luck: Luck::of(fails),
+            health: Health::of(fails),
             spots: Vec::new(alloc),
         })
     }

@@ -3,7 +3,7 @@ ghost use Rattle.std.specs.Prelude.{IsTrue, map};
 ghost use Rattle.wdt_depot.specs.Spots.{all_placed, entered_view};
 ghost use Rattle.wdt_depot.specs.View.{index_of};
 
-use crate::luck::Luck;
+use crate::health::Health;
 use crate::spots::Entered;
 use crate::store::Store;
 
@@ -13,7 +13,7 @@ use crate::store::Store;
 #[derive(Debug, Drop)]
 pub struct MemDepot {
     pub(crate) store: Store,
-    pub(crate) luck: Luck,
+    pub(crate) health: Health,
     pub(crate) spots: Vec<Entered>,
     ghost placed: { IsTrue (all_placed (map entered_view spots.items) (index_of store.index)) },
 }

@@ -10,18 +10,18 @@ impl Crash for MemDepot {
     ghost picked = { λ d pick. picked_disk d pick };
 
     fn arm(&mut self, calls: u32, pick: u64) {
-        self.luck.armed = Some((calls, pick));
+        self.health.armed = Some((calls, pick));
     }
 
     fn struck(&self) -> bool {
-        self.luck.struck.is_some()
+        self.health.struck.is_some()
     }
 
     fn reopen(&mut self) {
-        let pick = self.luck.struck.unwrap_or(0);
+        let pick = self.health.struck.unwrap_or(0);
         reopen_all(&mut self.store, pick);
-        self.luck.struck = None;
-        self.luck.own_then = self.luck.own;
+        self.health.struck = None;
+        self.health.own_then = self.health.own;
         self.spots.clear();
     }
 

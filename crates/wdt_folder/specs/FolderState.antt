@@ -7,4 +7,4 @@ use Rattle.wdt_folder.specs.Untold.{untold}
 
 -- its stop, its spots and its counts
 abbrev pub folder_state : {R File Dir : Type 0} → FolderDepot R File Dir → State
-folder_state d = untold d.luck (map entered_view d.spots.items)
+folder_state d = untold d.health (map entered_view d.spots.items)

@@ -1,15 +1,15 @@
 -- What contracts see of a depot that tells nothing of its disk.
 use Rattle.std.specs.Prelude.{ℕ, List, [], None, Bool, is_some}
-use Rattle.wdt_depot.specs.declared.luck.Luck.{Luck}
-use Rattle.wdt_depot.specs.Luck.{stop_of}
+use Rattle.wdt_depot.specs.declared.health.Health.{Health}
+use Rattle.wdt_depot.specs.Health.{stop_of}
 use Rattle.wdt_depot.specs.State.{State, counted}
 
 -- its stop, its spots and its counts; it has no slips
-abbrev pub untold : Luck → List (ℕ × List ℕ) → State
+abbrev pub untold : Health → List (ℕ × List ℕ) → State
 untold l es = record { told = None; stop = stop_of l; spots = es; faults = l.faults; own = l.own; own_then = l.own_then; slips = 0 }
 
 -- a changing call can't go on: a stop has struck, or strikes it
-abbrev pub is_barred : Luck → Bool
+abbrev pub is_barred : Health → Bool
 is_barred l = is_some (counted (stop_of l)).struck
 
 -- how it begins: nothing happened yet

@@ -10,7 +10,7 @@ use crate::folder::Folder;
 use crate::trouble::{Fault, Trouble};
 use std::os::unix::fs::FileExt;
 use std::rt::Files;
-use wdt_depot::{Depot, DepotFail, Entered, Luck, drop_spot, path_at, push_spot};
+use wdt_depot::{Depot, DepotFail, Entered, Health, drop_spot, path_at, push_spot};
 use wdt_units::{Failed, Name, Spot};
 
 /// Files below a folder, as a depot. It tells nothing of what it holds.
@@ -23,7 +23,7 @@ use wdt_units::{Failed, Name, Spot};
 /// The files that were used last stay open, so nobody else may change the folder meanwhile.
 #[derive(Drop)]
 pub struct FolderDepot<R: Files + AllocGlobal + Clone + Drop> {
-    pub(crate) luck: Luck,
+    pub(crate) health: Health,
     pub(crate) spots: Vec<Entered>,
     pub(crate) folder: Folder<R>,
     fault: Option<Fault>,
@@ -43,7 +43,7 @@ where
     {
         let alloc = rt.alloc();
         FolderDepot {
-            luck: Luck::of(Vec::new(alloc)),
+            health: Health::of(Vec::new(alloc)),
             spots: Vec::new(alloc),
             folder: Folder::at(rt, root),
             fault: None,
@@ -57,71 +57,71 @@ where
 
     // Whether a stop bars a changing call: it has struck, or strikes the call.
     fn is_barred(&self) -> bool
-        ensures { result ≡ is_barred self.now.luck }
+        ensures { result ≡ is_barred self.now.health }
     {
-        if self.luck.is_down() {
+        if self.health.is_down() {
             return true;
         }
-        matches!(self.luck.armed, Some((1, _)))
+        matches!(self.health.armed, Some((1, _)))
     }
 
     // Counts what a stop bars.
     fn bar(&mut self) -> Result<(), DepotFail>
-        requires { IsTrue (is_barred self.old.luck) }
+        requires { IsTrue (is_barred self.old.health) }
         ensures failed { result ≡ Err DepotFail.Failed }
         ensures memory { IsKept result (folder_state self.old) (folder_state self.new) }
         ensures stop { IsCounted result (folder_state self.old) (folder_state self.new) }
         ensures spots { (folder_state self.new).spots ≡ (folder_state self.old).spots }
         ensures counts { Counts (IsErrOf result DepotFail.Failed) (folder_state self.old) (folder_state self.new) }
     {
-        if self.luck.is_down() {
-            return Err(self.luck.fault());
+        if self.health.is_down() {
+            return Err(self.health.fault());
         }
-        match self.luck.armed {
-            Some((_, pick)) => Err(self.luck.strike(pick)),
-            None => Err(self.luck.fault()),
+        match self.health.armed {
+            Some((_, pick)) => Err(self.health.strike(pick)),
+            None => Err(self.health.fault()),
         }
     }
 
     // Counts a changing call by how it went.
     fn settle(&mut self, done: Result<(), Trouble>) -> Result<(), DepotFail>
-        requires { is_barred self.old.luck ≡ false }
+        requires { is_barred self.old.health ≡ false }
         ensures failed { IsErr done → IsErr result }
         ensures memory { IsKept result (folder_state self.old) (folder_state self.new) }
         ensures stop { IsCounted result (folder_state self.old) (folder_state self.new) }
-        ensures up { OnOk result (self.new.luck.struck ≡ None) }
+        ensures up { OnOk result (self.new.health.struck ≡ None) }
         ensures spots { (folder_state self.new).spots ≡ (folder_state self.old).spots }
         ensures counts { Counts (IsErrOf result DepotFail.Failed) (folder_state self.old) (folder_state self.new) }
     {
         match done {
             Ok(()) => {
-                self.luck.count();
+                self.health.count();
                 Ok(())
             }
             Err(Trouble::NoMemory) => Err(DepotFail::NoMemory),
             Err(Trouble::Fault(fault)) => {
                 self.fault = Some(fault);
-                self.luck.count();
-                Err(self.luck.own_fault(false))
+                self.health.count();
+                Err(self.health.own_fault(false))
             }
         }
     }
 
     // A call that looks, behind a stop that has struck.
     fn down<T>(&mut self) -> Result<T, DepotFail>
-        requires { IsSome self.old.luck.struck }
+        requires { IsSome self.old.health.struck }
         ensures failed { result ≡ Err DepotFail.Failed }
         ensures looks { OnlyLooks (folder_state self.old) (folder_state self.new) }
         ensures memory { IsKept result (folder_state self.old) (folder_state self.new) }
         ensures spots { (folder_state self.new).spots ≡ (folder_state self.old).spots }
         ensures counts { Counts (IsErrOf result DepotFail.Failed) (folder_state self.old) (folder_state self.new) }
     {
-        Err(self.luck.fault())
+        Err(self.health.fault())
     }
 
     // A call that looked and found trouble.
     fn miss<T>(&mut self, trouble: Trouble) -> Result<T, DepotFail>
-        requires { self.old.luck.struck ≡ None }
+        requires { self.old.health.struck ≡ None }
         ensures failed { IsErr result }
         ensures looks { OnlyLooks (folder_state self.old) (folder_state self.new) }
         ensures memory { IsKept result (folder_state self.old) (folder_state self.new) }
@@ -132,7 +132,7 @@ where
             Trouble::NoMemory => Err(DepotFail::NoMemory),
             Trouble::Fault(fault) => {
                 self.fault = Some(fault);
-                Err(self.luck.own_fault(false))
+                Err(self.health.own_fault(false))
             }
         }
     }
@@ -165,7 +165,7 @@ where
     }
 
     fn enter(&mut self, path: &Name) -> Result<Option<Spot>, DepotFail> {
-        if self.luck.is_down() {
+        if self.health.is_down() {
             return self.down();
         }
         match self.folder.look(path, &self.spots) {
@@ -179,7 +179,7 @@ where
     }
 
     fn need(&mut self, path: &Name) -> Result<Spot, DepotFail> {
-        if self.luck.is_down() {
+        if self.health.is_down() {
             return self.down();
         }
         match self.folder.open(path, &self.spots) {
@@ -196,7 +196,7 @@ where
     }
 
     fn length(&mut self, spot: Spot) -> Result<u64, DepotFail> {
-        if self.luck.is_down() {
+        if self.health.is_down() {
             return self.down();
         }
         let path = path_in(&self.spots, spot);
@@ -207,7 +207,7 @@ where
     }
 
     fn read_at(&mut self, spot: Spot, offset: u64, into: &mut [u8]) -> Result<usize, DepotFail> {
-        if self.luck.is_down() {
+        if self.health.is_down() {
             return self.down();
         }
         let path = path_in(&self.spots, spot);
@@ -236,13 +236,13 @@ where
         let path = path_in(&self.spots, spot);
         match self.folder.sync(path) {
             Ok(()) => {
-                self.luck.count();
+                self.health.count();
                 Ok(())
             }
             Err(fault) => {
                 self.fault = Some(fault);
-                self.luck.count();
-                let _ = self.luck.own_fault(false);
+                self.health.count();
+                let _ = self.health.own_fault(false);
                 Err(Failed)
             }
         }

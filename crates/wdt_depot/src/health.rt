@@ -1,12 +1,12 @@
 //! What goes wrong in a depot: a stop, the calls that fail by their numbers, and the counts.
 ghost use Rattle.std.specs.Prelude.{◌≡◌, is_some};
-ghost use Rattle.wdt_depot.specs.Luck.{IsCountedOn, IsFaulted, IsFresh, IsNumbered, IsOwnFault, IsRefused, IsStruck, IsTurn};
+ghost use Rattle.wdt_depot.specs.Health.{IsCountedOn, IsFaulted, IsFresh, IsNumbered, IsOwnFault, IsRefused, IsStruck, IsTurn};
 
 use crate::failure::DepotFail;
 
 /// A depot's stop and its counts, for an `impl Depot` to keep them by. The counts stop at 2^64 less 1.
 #[derive(Debug, Drop)]
-pub struct Luck {
+pub struct Health {
     /// The changing calls up to the stop, and its pick.
     pub armed: Option<(u32, u64)>,
     /// The pick of the stop that has struck.
@@ -30,12 +30,12 @@ pub enum Turn {
     Goes,
 }
 
-impl Luck {
+impl Health {
     /// No stop, and all counts 0. The changing calls of these numbers fail, from 1.
-    pub fn of(fails: Vec<u32>) -> Luck
+    pub fn of(fails: Vec<u32>) -> Health
         ensures { IsFresh result }
     {
-        Luck {
+        Health {
             armed: None,
             struck: None,
             fails,
@@ -57,7 +57,7 @@ impl Luck {
     /// Counts a fault of a stop that has struck.
     pub fn fault(&mut self) -> DepotFail
         ensures failed { result ≡ DepotFail.Failed }
-        ensures luck { IsFaulted self.old self.new }
+        ensures health { IsFaulted self.old self.new }
     {
         self.faults = self.faults.saturating_add(1);
         DepotFail::Failed
@@ -66,7 +66,7 @@ impl Luck {
     /// Counts a fault that no stop made, and a slip where it is one. It is no changing call: see `count`.
     pub fn own_fault(&mut self, slips: bool) -> DepotFail
         ensures failed { result ≡ DepotFail.Failed }
-        ensures luck { IsOwnFault slips self.old self.new }
+        ensures health { IsOwnFault slips self.old self.new }
     {
         self.faults = self.faults.saturating_add(1);
         self.own = self.own.saturating_add(1);
@@ -78,7 +78,7 @@ impl Luck {
 
     // Numbers a changing call, and says what becomes of it.
     pub(crate) fn turn(&mut self) -> Turn
-        ensures luck { IsNumbered self.old self.new }
+        ensures health { IsNumbered self.old self.new }
         ensures turn { IsTurn self.old.armed result }
     {
         self.calls = self.calls.saturating_add(1);
@@ -94,7 +94,7 @@ impl Luck {
     /// The stop strikes, which is a fault but no own one.
     pub fn strike(&mut self, pick: u64) -> DepotFail
         ensures failed { result ≡ DepotFail.Failed }
-        ensures luck { IsStruck pick self.old self.new }
+        ensures health { IsStruck pick self.old self.new }
     {
         self.armed = None;
         self.struck = Some(pick);
@@ -113,7 +113,7 @@ impl Luck {
     // The call can't be done: the stop strikes, or else it is an own fault.
     pub(crate) fn refuse(&mut self, turn: Turn, slips: bool) -> DepotFail
         ensures failed { result ≡ DepotFail.Failed }
-        ensures luck { IsRefused turn slips self.old self.new }
+        ensures health { IsRefused turn slips self.old self.new }
     {
         match turn {
             Turn::Strikes(pick) => self.strike(pick),

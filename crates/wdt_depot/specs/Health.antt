@@ -3,19 +3,19 @@ use Rattle.std.specs.Prelude.{◌≡◌, ◌≢◌, ℕ, ◌-◌, Bool, true, fa
 use Rattle.wdt_units.specs.Counts.{Rises}
 use Rattle.wdt_depot.specs.State.{Stop, State}
 use Rattle.wdt_depot.specs.Moments.{Told}
-use Rattle.wdt_depot.specs.declared.luck.Luck.{Luck}
-use Rattle.wdt_depot.specs.declared.luck.Turn.{Turn}
-use Rattle.wdt_depot.specs.declared.luck.Turn.TheVariants.{Strikes, Fails, Goes}
+use Rattle.wdt_depot.specs.declared.health.Health.{Health}
+use Rattle.wdt_depot.specs.declared.health.Turn.{Turn}
+use Rattle.wdt_depot.specs.declared.health.Turn.TheVariants.{Strikes, Fails, Goes}
 
-abbrev pub stop_of : Luck → Stop
+abbrev pub stop_of : Health → Stop
 stop_of l = record { armed = l.armed; struck = l.struck }
 
--- the state of what is told, of the luck and of the spots
-abbrev pub state_of : Told → Luck → List (ℕ × List ℕ) → State
+-- the state of what is told, of the health and of the spots
+abbrev pub state_of : Told → Health → List (ℕ × List ℕ) → State
 state_of t l es = record { told = Some t; stop = stop_of l; spots = es; faults = l.faults; own = l.own; own_then = l.own_then; slips = l.slips }
 
 -- nothing went wrong yet
-pub record IsFresh (l : Luck) : Type 0 where
+pub record IsFresh (l : Health) : Type 0 where
   pub stop : stop_of l ≡ record { armed = None; struck = None }
   pub faults : l.faults ≡ 0
   pub own : l.own ≡ 0
@@ -23,7 +23,7 @@ pub record IsFresh (l : Luck) : Type 0 where
   pub slips : l.slips ≡ 0
 
 -- a fault, and nothing else
-pub record IsFaulted (old new : Luck) : Type 0 where
+pub record IsFaulted (old new : Health) : Type 0 where
   pub armed : new.armed ≡ old.armed
   pub struck : new.struck ≡ old.struck
   pub own : new.own ≡ old.own
@@ -37,7 +37,7 @@ pub record MaySlip (slips : Bool) (old new : ℕ) : Type 0 where
   pub rises : slips ≡ true → Rises old new
 
 -- an own fault, with a slip or without
-pub record IsOwnFault (slips : Bool) (old new : Luck) : Type 0 where
+pub record IsOwnFault (slips : Bool) (old new : Health) : Type 0 where
   pub armed : new.armed ≡ old.armed
   pub struck : new.struck ≡ old.struck
   pub own_then : new.own_then ≡ old.own_then
@@ -46,7 +46,7 @@ pub record IsOwnFault (slips : Bool) (old new : Luck) : Type 0 where
   pub slipped : MaySlip slips old.slips new.slips
 
 -- a call was numbered, and nothing else
-pub record IsNumbered (old new : Luck) : Type 0 where
+pub record IsNumbered (old new : Health) : Type 0 where
   pub armed : new.armed ≡ old.armed
   pub struck : new.struck ≡ old.struck
   pub faults : new.faults ≡ old.faults
@@ -66,7 +66,7 @@ IsTurn armed Fails = IsLater armed
 IsTurn armed Goes = IsLater armed
 
 -- the stop struck
-pub record IsStruck (pick : ℕ) (old new : Luck) : Type 0 where
+pub record IsStruck (pick : ℕ) (old new : Health) : Type 0 where
   pub armed : new.armed ≡ None
   pub struck : new.struck ≡ Some pick
   pub own : new.own ≡ old.own
@@ -79,7 +79,7 @@ abbrev pub less : Option (ℕ × ℕ) → Option (ℕ × ℕ)
 less None = None
 less (Some a) = Some (a.0 - 1, a.1)
 
-pub record IsCountedOn (old new : Luck) : Type 0 where
+pub record IsCountedOn (old new : Health) : Type 0 where
   pub armed : new.armed ≡ less old.armed
   pub struck : new.struck ≡ old.struck
   pub faults : new.faults ≡ old.faults
@@ -88,7 +88,7 @@ pub record IsCountedOn (old new : Luck) : Type 0 where
   pub slips : new.slips ≡ old.slips
 
 -- an own fault of a changing call
-pub record IsOwnRefusal (slips : Bool) (old new : Luck) : Type 0 where
+pub record IsOwnRefusal (slips : Bool) (old new : Health) : Type 0 where
   pub armed : new.armed ≡ less old.armed
   pub struck : new.struck ≡ old.struck
   pub own_then : new.own_then ≡ old.own_then
@@ -97,7 +97,7 @@ pub record IsOwnRefusal (slips : Bool) (old new : Luck) : Type 0 where
   pub slipped : MaySlip slips old.slips new.slips
 
 -- the call wasn't done: the stop struck, or else it is an own fault
-abbrev pub IsRefused : Turn → Bool → Luck → Luck → Type 0
+abbrev pub IsRefused : Turn → Bool → Health → Health → Type 0
 IsRefused (Strikes pick) slips old new = IsStruck pick old new
 IsRefused Fails slips old new = IsOwnRefusal slips old new
 IsRefused Goes slips old new = IsOwnRefusal slips old new
