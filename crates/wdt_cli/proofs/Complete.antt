@@ -2,7 +2,7 @@
 use Rattle.std.proofs.Common.{◌≡◌, List, Option, Some, None}
 use Rattle.wdt_tree.specs.declared.entry.Entry.{Entry}
 use Rattle.wdt_cli.specs.declared.status.Status.{Status}
-use Rattle.wdt_cli.specs.declared.status.Status.TheVariants.{Done, Usage, SourceFault, Refused, OutFault, NoMemory}
+use Rattle.wdt_cli.specs.declared.status.Status.TheVariants.{Done, Usage, SourceFault, DiskFault, Refused, OutFault, NoMemory}
 use Rattle.wdt_sender_fsm.specs.declared.answers.RefusedKind.{RefusedKind}
 use Rattle.wdt_rehearsal.specs.Causes.{IsToldRefused}
 use Rattle.wdt_cli.specs.Causes.{IsRefusalEnd, IsUnrefused, IsDoneOrStarved}
@@ -16,5 +16,6 @@ refusal-complete listing kind Done end told free = tt
 refusal-complete listing kind NoMemory end told free = tt
 refusal-complete listing kind Usage end told free = absurd end
 refusal-complete listing kind SourceFault end told free = absurd end
+refusal-complete listing kind DiskFault end told free = absurd end
 refusal-complete listing kind OutFault end told free = absurd end
 refusal-complete listing kind (Refused other) end told free = absurd (none listing kind other end told free)

@@ -2,10 +2,11 @@
 use Rattle.std.specs.Prelude.{◌≡◌, ℕ, List, Option, Some, None}
 use Rattle.wdt_units.specs.Counts.{Rises}
 use Rattle.wdt_tree.specs.declared.entry.Entry.{Entry}
+use Rattle.wdt_depot.specs.State.{State}
 use Rattle.wdt_sender_fsm.specs.declared.answers.RefusedKind.{RefusedKind}
 use Rattle.wdt_rehearsal.specs.Causes.{IsRefusedFor}
 use Rattle.wdt_cli.specs.declared.status.Status.{Status}
-use Rattle.wdt_cli.specs.declared.status.Status.TheVariants.{Done, Refused, OutFault, NoMemory}
+use Rattle.wdt_cli.specs.declared.status.Status.TheVariants.{Done, Usage, SourceFault, Refused, OutFault, NoMemory}
 
 abbrev pub IsNoRefusal : Status → Type 0
 IsNoRefusal (Refused kind) = ⊥
@@ -34,3 +35,10 @@ abbrev pub IsRefusalEnd : RefusedKind → Status → Type 0
 IsRefusalEnd kind (Refused other) = other ≡ kind
 IsRefusalEnd kind NoMemory = Unit {0}
 IsRefusalEnd kind other = ⊥
+
+-- a run that ends before a tree has come whole leaves the depot as it was
+abbrev pub LeavesDepot : Status → State → State → Type 0
+LeavesDepot Usage old new = new ≡ old
+LeavesDepot SourceFault old new = new ≡ old
+LeavesDepot (Refused kind) old new = new ≡ old
+LeavesDepot other old new = Unit {0}

@@ -1,12 +1,13 @@
 -- The numbers that a process ends with.
 use Rattle.std.specs.Prelude.{ℕ}
 use Rattle.wdt_cli.specs.declared.status.Status.{Status}
-use Rattle.wdt_cli.specs.declared.status.Status.TheVariants.{Done, Usage, SourceFault, Refused, OutFault, NoMemory}
+use Rattle.wdt_cli.specs.declared.status.Status.TheVariants.{Done, Usage, SourceFault, DiskFault, Refused, OutFault, NoMemory}
 
 abbrev pub code_of : Status → ℕ
 code_of Done = 0
 code_of Usage = 1
 code_of SourceFault = 2
+code_of DiskFault = 3
 code_of (Refused kind) = 7
 code_of OutFault = 8
 code_of NoMemory = 10

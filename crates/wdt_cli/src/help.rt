@@ -18,6 +18,7 @@ exit statuses:
   0   done
   1   the words are no command
   2   the source failed
+  3   the destination failed
   7   the tree is refused
   8   standard output failed
   10  memory ran out

@@ -18,6 +18,7 @@ use std::alloc::{AllocError, Global};
 use std::io;
 use std::process::ExitCode;
 use std::rt::{Env, Files};
+use wdt_depot::MemDepot;
 use wdt_folder::{FolderSource, OneLine};
 use wdt_sender_fsm::RefusedKind;
 use wdt_units::ToWrite;
@@ -41,8 +42,11 @@ fn main(rt: HostRuntime) -> io::Result<ExitCode> {
         Ok(None) | Err(_) => String::new(alloc),
     };
     let mut source = FolderSource::at(rt.clone()?, folder);
+    let Ok(depot) = MemDepot::of(alloc, Vec::new(alloc), Vec::new(alloc)) else {
+        return Ok(ExitCode::from(Status::NoMemory.code()));
+    };
     let mut out = ToWrite::of(io::writer(&rt));
-    let tooled = tool::tool(alloc, &words, &mut source, &mut out);
+    let tooled = tool::tool(alloc, &words, &mut source, depot, &mut out);
     // A line that standard error doesn't take changes nothing of the run.
     let _ = explain(&rt, alloc, &tooled.status, &source, out.fault());
     Ok(ExitCode::from(tooled.status.code()))
@@ -75,6 +79,8 @@ fn explain<R: Files + AllocGlobal + Clone + Drop>(
             Some(fault) => eprintln!(rt; "wdt: {fault}"),
             None => Ok(()),
         },
+        // Files in memory have no reason to give.
+        Status::DiskFault => Ok(()),
         Status::Refused(kind) => explain_refusal(rt, alloc, kind, source),
         Status::OutFault => match out {
             Some(reason) => eprintln!(rt; "wdt: writing standard output: {reason}"),

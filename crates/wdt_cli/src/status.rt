@@ -1,6 +1,5 @@
 //! How a run ends.
 use wdt_sender_fsm::RefusedKind;
-use wdt_tree::Plain;
 
 /// How a run ends.
 #[derive(Debug, Drop)]
@@ -11,6 +10,8 @@ pub enum Status {
     Usage,
     /// The source failed.
     SourceFault,
+    /// The depot failed. Some files may stand in it.
+    DiskFault,
     /// The tree is refused.
     Refused(RefusedKind),
     /// The lines couldn't be written, and all else went well.
@@ -21,10 +22,10 @@ pub enum Status {
 
 /// What a run leaves.
 #[derive(Debug, Drop)]
-pub struct Tooled {
+pub struct Tooled<D> {
     pub status: Status,
-    /// The files that landed, in the order of their paths, where the run is done.
-    pub landed: Vec<Plain>,
+    /// The depot, with the tree's files where the run is done.
+    pub depot: D,
 }
 
 impl Status {
@@ -39,6 +40,7 @@ impl Status {
             Status::Done => 0,
             Status::Usage => 1,
             Status::SourceFault => 2,
+            Status::DiskFault => 3,
             Status::Refused(_) => 7,
             Status::OutFault => 8,
             Status::NoMemory => 10,

@@ -1,11 +1,13 @@
 //! What no clause says: that the runs succeed, and worked examples of their lines.
-ghost use Rattle.std.specs.Prelude.{None};
+ghost use Rattle.std.specs.Prelude.{◌≡◌, [], None, IfOk};
+ghost use Rattle.wdt_depot.specs.MemState.{mem_state};
 
 use crate::status::Status;
 use crate::tool::tool;
 use std::alloc::Global;
 use std::process::Abort;
 use std::test::Fail;
+use wdt_depot::MemDepot;
 use wdt_source::{MemSource, Source, SourceFail};
 use wdt_tree::{Plain, RawEntry};
 use wdt_units::{MemSink, Name};
@@ -26,22 +28,26 @@ fn plain(alloc: Global, path: &str, bytes: &str) -> Result<Plain, Fail> {
     })
 }
 
-// The status and the lines of `rehearse SRC` on these files, which must land as they are.
+// An empty depot.
+fn no_files(alloc: Global) -> Result<MemDepot, Fail>
+    ensures { IfOk result (λ depot. (mem_state depot).spots ≡ []) }
+{
+    let depot = MemDepot::of(alloc, Vec::new(alloc), Vec::new(alloc))?;
+    Ok(depot)
+}
+
+// The status and the lines of `rehearse SRC` on these files.
 fn rehearse(
     rt: &impl Abort,
     alloc: Global,
     files: Vec<Plain>,
     sink_fails: Vec<u32>,
 ) -> Result<(Status, MemSink), Fail> {
-    let count = files.len();
-    assert!(rt; count < 4_294_967_296);
+    assert!(rt; files.len() < 4_294_967_296);
     let mut source = MemSource::of(files, Vec::new(alloc));
     let mut out = MemSink::of(alloc, sink_fails);
     let words = words_of(alloc, &["rehearse", "SRC"])?;
-    let tooled = tool(alloc, &words, &mut source, &mut out);
-    if matches!(tooled.status, Status::Done) {
-        assert_eq!(rt; tooled.landed.len(), count);
-    }
+    let tooled = tool(alloc, &words, &mut source, no_files(alloc)?, &mut out);
     Ok((tooled.status, out))
 }
 
@@ -101,7 +107,8 @@ fn other_words_are_usage(rt: HostRuntime) -> Result<(), Fail> {
         let words = words_of(rt.alloc(), words)?;
         let mut source = MemSource::of(Vec::new(rt.alloc()), Vec::new(rt.alloc()));
         let mut out = MemSink::of(rt.alloc(), Vec::new(rt.alloc()));
-        let tooled = tool(rt.alloc(), &words, &mut source, &mut out);
+        let depot = no_files(rt.alloc())?;
+        let tooled = tool(rt.alloc(), &words, &mut source, depot, &mut out);
         assert!(rt; matches!(tooled.status, Status::Usage));
         assert_eq!(rt; out.bytes(), b"usage\n".as_slice());
     }
@@ -184,7 +191,8 @@ fn paths_are_refused_at_their_place(rt: HostRuntime) -> Result<(), Fail> {
         let mut source = paths_of(rt.alloc(), paths, b"")?;
         let mut out = MemSink::of(rt.alloc(), Vec::new(rt.alloc()));
         let words = words_of(rt.alloc(), &["rehearse", "SRC"])?;
-        let tooled = tool(rt.alloc(), &words, &mut source, &mut out);
+        let depot = no_files(rt.alloc())?;
+        let tooled = tool(rt.alloc(), &words, &mut source, depot, &mut out);
         assert_eq!(rt; tooled.status.code(), status);
         assert_eq!(rt; out.bytes(), line);
     }
@@ -202,7 +210,8 @@ fn more_blocks_than_a_session_has_are_refused(rt: HostRuntime) -> Result<(), Fai
     source.size = 1_099_511_627_776;
     let mut out = MemSink::of(rt.alloc(), Vec::new(rt.alloc()));
     let words = words_of(rt.alloc(), &["rehearse", "SRC"])?;
-    let tooled = tool(rt.alloc(), &words, &mut source, &mut out);
+    let depot = no_files(rt.alloc())?;
+    let tooled = tool(rt.alloc(), &words, &mut source, depot, &mut out);
     assert_eq!(rt; tooled.status.code(), 7);
     assert_eq!(rt;
         out.bytes(),

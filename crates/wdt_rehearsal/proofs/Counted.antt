@@ -1,4 +1,4 @@
--- How many files, blocks and bytes a tree has, file by file.
+-- How many files and bytes of a tree are left, file by file.
 use Rattle.std.proofs.Common.{◌≡◌, ℕ, ◌+◌, ◌-◌, ◌≤◌, List, [], ◌∷◌, length, map, take, sum_by, slice_get, Some, refl, sym, ap, ◌∙◌, arith}
 use Rattle.std.proofs.lemmas.List.{length-map, take_all}
 use Rattle.std.proofs.lemmas.List.Sums.{sum_by-cons, sum_by_more, sum_by_more_le}
@@ -9,13 +9,8 @@ use Rattle.wdt_units.specs.Tree.{File, length_of}
 use Rattle.wdt_tree.specs.Listing.{size_of}
 use Rattle.wdt_tree.specs.Shown.{entry_of_file}
 use Rattle.wdt_tree.proofs.Cuts.{cuts_rest}
-use Rattle.wdt_rehearsal.specs.declared.report.Report.{Report}
-use Rattle.wdt_rehearsal.specs.Reports.{IsReportOf}
 use Rattle.wdt_rehearsal.specs.declared.receiver.Stage.TheVariants.{Blocks}
 use Rattle.wdt_rehearsal.specs.Sending.{HasRoom, less}
-
-abbrev made : ℕ → ℕ → ℕ → Report
-made files blocks bytes = record { files = files; blocks = blocks; bytes = bytes }
 
 -- one more entry in a sum
 pub sum-more : (f : Entry → ℕ) (entries : List Entry) (at : ℕ) (entry : Entry) → slice_get entries at ≡ Some entry → sum_by f (take (at + 1) entries) ≡ sum_by f (take at entries) + f entry
@@ -43,30 +38,3 @@ none-left entries at e =
     let files : length entries - at ≡ 0 = omega arith in
     let bytes : sum_by size_of entries - sum_by size_of (take at entries) ≡ 0 = omega (arith, ap (sum_by size_of) all) in
     ap (λ n. Blocks n (sum_by size_of entries - sum_by size_of (take at entries))) files ∙ ap (Blocks 0) bytes
-
-sum_by-files : (files : List File) → sum_by length_of files ≡ sum_by size_of (map entry_of_file files)
-sum_by-files [] = refl
-sum_by-files (file ∷ files) =
-    sum_by-cons length_of file files ∙ ap (λ n. length file.bytes + n) (sum_by-files files) ∙ sym (sum_by-cons size_of (entry_of_file file) (map entry_of_file files))
-
--- the report of what landed
-pub report-is : (files : List File) (entries : List Entry) (count blocks total : ℕ) → map entry_of_file files ≡ entries → count ≡ length entries → blocks ≡ length (cuts 16777216 entries) → total ≡ sum_by size_of entries
-    → IsReportOf files (record { files = count; blocks = blocks; bytes = total })
-report-is files entries count blocks total same counted cut summed =
-    let few : count ≡ length files = counted ∙ sym (ap length same) ∙ length-map files entry_of_file in
-    let many : blocks ≡ length (cuts 16777216 (map entry_of_file files)) = cut ∙ sym (ap (λ (es : List Entry). length (cuts 16777216 es)) same) in
-    let large : total ≡ sum_by length_of files = summed ∙ sym (ap (sum_by size_of) same) ∙ sym (sum_by-files files) in
-    record {
-      blocks = cuts 16777216 (map entry_of_file files);
-      rest = cuts_rest (map entry_of_file files) 16777216 (omega arith);
-      is = by_files few ∙ by_blocks many ∙ by_bytes large;
-    }
-  where
-    by_files : {a b : ℕ} → a ≡ b → made a blocks total ≡ made b blocks total
-    by_files e = ap (λ n. made n blocks total) e
-
-    by_blocks : {a b : ℕ} → a ≡ b → made (length files) a total ≡ made (length files) b total
-    by_blocks e = ap (λ n. made (length files) n total) e
-
-    by_bytes : {a b : ℕ} → a ≡ b → made (length files) (length (cuts 16777216 (map entry_of_file files))) a ≡ made (length files) (length (cuts 16777216 (map entry_of_file files))) b
-    by_bytes e = ap (made (length files) (length (cuts 16777216 (map entry_of_file files)))) e

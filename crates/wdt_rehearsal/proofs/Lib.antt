@@ -8,4 +8,5 @@ pub mod Messages
 pub mod Pieces
 pub mod Planned
 pub mod Receiving
+pub mod Stored
 pub mod Unique

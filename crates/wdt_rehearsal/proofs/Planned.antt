@@ -169,12 +169,12 @@ none-refused A B m listing entries ordered blocks before after r is refuses orde
     told-run A listing entries before after r is (λ kind h. past-check A B m entries kind r refuses (λ count many. not-over (RefusesRun r (TooManyBlocks count)) entries ordered count blocks many order rest few) h)
 
 -- the cause of a plan's failure
-pub plan-cause : (listing : Option (List Entry)) (entries ordered : List Entry) (before after : ℕ) (given : PlanFail) → IfSome listing (λ listed. entries ≡ listed) → IsAccepted entries → Orders entries ordered
-    → ((given ≡ plans.NoMemory → ⊥) → refusal ordered [] 16777216 ≡ Some given) → IsCause listing before after (unplanned_of given)
-plan-cause listing entries ordered before after plans.NoMemory is accepted order refused = tt
-plan-cause listing entries ordered before after (plans.Stale path logged found) is accepted order refused = tt
-plan-cause None entries ordered before after (plans.TooManyBlocks count) is accepted order refused = tt
-plan-cause (Some listed) entries ordered before after (plans.TooManyBlocks count) is accepted order refused =
+pub plan-cause : (listing : Option (List Entry)) (entries ordered : List Entry) (before after : ℕ) (disk : Type 0) (given : PlanFail) → IfSome listing (λ listed. entries ≡ listed) → IsAccepted entries → Orders entries ordered
+    → ((given ≡ plans.NoMemory → ⊥) → refusal ordered [] 16777216 ≡ Some given) → IsCause listing before after disk (unplanned_of given)
+plan-cause listing entries ordered before after disk plans.NoMemory is accepted order refused = tt
+plan-cause listing entries ordered before after disk (plans.Stale path logged found) is accepted order refused = tt
+plan-cause None entries ordered before after disk (plans.TooManyBlocks count) is accepted order refused = tt
+plan-cause (Some listed) entries ordered before after disk (plans.TooManyBlocks count) is accepted order refused =
     subst (λ (es : List Entry). HasTooManyBlocks es count) is (too-many entries ordered count accepted order (refused (λ z. absurd cc)))
 
 pub plan-failure : (entries : List Entry) (given : PlanFail) → ((given ≡ plans.NoMemory → ⊥) → refusal entries [] 16777216 ≡ Some given) → IsPlanFailure given

@@ -6,6 +6,7 @@ use Rattle.wdt_tree.specs.declared.entry.Entry.{Entry}
 use Rattle.wdt_tree.specs.declared.manifest.ManifestFail.TheVariants as fail
 use Rattle.wdt_tree.specs.Listing.{IsAccepted, IsRefused, Orders}
 use Rattle.wdt_tree.specs.Rest.{IsRest}
+use Rattle.wdt_depot.specs.State.{State}
 use Rattle.wdt_sender_fsm.specs.declared.answers.RefusedKind.{RefusedKind}
 use Rattle.wdt_sender_fsm.specs.declared.answers.RefusedKind.TheVariants.{BadScript, BadPath, Reserved, Twice, TooMany, TooLarge, TooManyBlocks, Stale, BadLog}
 use Rattle.wdt_rehearsal.specs.declared.rehearsal.Failure.{Failure}
@@ -38,15 +39,24 @@ IsRefusedFor listing (BadLog at) = ⊥
 abbrev pub IsToldRefused : Option (List Entry) → RefusedKind → Type 0
 IsToldRefused listing kind = IfSome listing (λ entries. IsRefusedFor entries kind)
 
--- a failure of a run for its cause
-abbrev pub IsCause : Option (List Entry) → ℕ → ℕ → Failure → Type 0
-IsCause listing before after failure.Source = Rises before after
-IsCause listing before after (failure.Refused kind) = IsToldRefused listing kind
-IsCause listing before after failure.NoMemory = Unit {0}
+-- a failure of a run for its cause: that of the source by its count, and that of the disk as is given
+abbrev pub IsCause : Option (List Entry) → ℕ → ℕ → Type 0 → Failure → Type 0
+IsCause listing before after disk failure.Source = Rises before after
+IsCause listing before after disk failure.Disk = disk
+IsCause listing before after disk (failure.Refused kind) = IsToldRefused listing kind
+IsCause listing before after disk failure.NoMemory = Unit {0}
+
+-- a source that fails and a tree that is refused leave a depot as it was
+abbrev pub IsUntouched : State → State → Failure → Type 0
+IsUntouched old new failure.Source = new ≡ old
+IsUntouched old new failure.Disk = Unit {0}
+IsUntouched old new (failure.Refused kind) = new ≡ old
+IsUntouched old new failure.NoMemory = Unit {0}
 
 -- a run was refused for this, or memory ran out
 abbrev pub RefusesRun : {A : Type 0} → Result A Failure → RefusedKind → Type 0
 RefusesRun (Ok run) kind = ⊥
 RefusesRun (Err failure.Source) kind = ⊥
+RefusesRun (Err failure.Disk) kind = ⊥
 RefusesRun (Err (failure.Refused other)) kind = other ≡ kind
 RefusesRun (Err failure.NoMemory) kind = Unit {0}

@@ -1,7 +1,9 @@
 pub mod Causes
+pub mod Destination
 pub mod Failures
 pub mod Landing
 pub mod Received
 pub mod Replies
 pub mod Reports
 pub mod Sending
+pub mod Storing

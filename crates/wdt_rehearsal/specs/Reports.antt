@@ -1,18 +1,21 @@
 -- What a run counts.
-use Rattle.std.specs.Prelude.{◌≡◌, ℕ, List, [], length, map, sum_by}
-use Rattle.wdt_units.specs.Tree.{File, length_of}
+use Rattle.std.specs.Prelude.{◌≡◌, ℕ, List, [], length, sum_by, Option, IfSome}
 use Rattle.wdt_units.specs.declared.blocks.Block.{Block}
+use Rattle.wdt_tree.specs.declared.entry.Entry.{Entry}
+use Rattle.wdt_tree.specs.Listing.{Orders, size_of}
 use Rattle.wdt_tree.specs.Rest.{IsRest}
-use Rattle.wdt_tree.specs.Shown.{entry_of_file}
 use Rattle.wdt_rehearsal.specs.declared.report.Report.{Report}
 
--- what a run counts that landed these files in so many blocks
-abbrev pub report_of : List File → ℕ → Report
-report_of files blocks = record { files = length files; blocks = blocks; bytes = sum_by length_of files }
+-- what a run counts of these files, sent in so many blocks
+abbrev pub report_of : List Entry → ℕ → Report
+report_of entries blocks = record { files = length entries; blocks = blocks; bytes = sum_by size_of entries }
 
--- the counts of a run that landed these files: its blocks are what was to be sent of them to a
--- destination that has nothing, in blocks of 16,777,216 bytes
-pub record IsReportOf (files : List File) (report : Report) : Type 0 where
+-- A run counted a tree's files, in the order of their paths: those of the listing, where it is told.
+-- Its blocks are what was to be sent of them to a destination that has nothing, in blocks of 16,777,216
+-- bytes.
+pub record IsReportFor (listing : Option (List Entry)) (report : Report) : Type 0 where
+  pub entries : List Entry
+  pub order : IfSome listing (λ listed. Orders listed entries)
   pub blocks : List Block
-  pub rest : IsRest (map entry_of_file files) [] 16777216 blocks
-  pub is : report ≡ report_of files (length blocks)
+  pub rest : IsRest entries [] 16777216 blocks
+  pub is : report ≡ report_of entries (length blocks)

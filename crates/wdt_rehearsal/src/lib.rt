@@ -12,6 +12,7 @@ mod rehearsal;
 mod replies;
 mod report;
 mod session;
+mod storing;
 #[cfg(test)]
 mod tests;
 

@@ -1,33 +1,40 @@
-//! A copy of a source's tree into memory: the listing is checked, and then sent over one lane.
-ghost use Rattle.std.specs.Prelude.{◌≡◌, ◌≤◌, IfOk, IfSome, IfErr, map};
-ghost use Rattle.wdt_units.specs.Counts.{Stands};
+//! A copy of a source's tree into a depot: the listing is checked, the tree is sent over one lane, and
+//! the files that landed are stored.
+ghost use Rattle.std.specs.Prelude.{◌≡◌, ◌≤◌, [], map, IfErr, IfOk, IfSome, IsErrOf, OnOk};
+ghost use Rattle.wdt_units.specs.Counts.{Rises, Stands};
 ghost use Rattle.wdt_tree.specs.Shown.{shown};
-ghost use Rattle.wdt_rehearsal.specs.Reports.{IsReportOf};
-ghost use Rattle.wdt_rehearsal.specs.Causes.{IsCause, IsRefusedFor, RefusesRun};
+ghost use Rattle.wdt_depot.specs.Moments.{IfTold};
+ghost use Rattle.wdt_depot.specs.State.{Counts};
+ghost use Rattle.wdt_rehearsal.specs.Causes.{IsCause, IsRefusedFor, IsUntouched, RefusesRun};
+ghost use Rattle.wdt_rehearsal.specs.Destination.{Lands};
 ghost use Rattle.wdt_rehearsal.specs.Failures.{refusal_of, unplanned_of, IsPlanFailure};
+ghost use Rattle.wdt_rehearsal.specs.Reports.{IsReportFor};
 
 use crate::report::Report;
 use crate::session::{BLOCK, greet, transfer};
+use crate::storing::store;
 use std::alloc::Global;
+use wdt_depot::{Depot, DepotFail};
 use wdt_discover::{PlanFail, plan};
 use wdt_sender_fsm::RefusedKind;
 use wdt_source::{Source, SourceFail};
 use wdt_tree::{Manifest, ManifestFail, Plain};
 
-/// The files that landed, what was counted, and the bytes of both ways as `Transferred` has them.
+/// What a run counted, and the bytes of both ways as `Transferred` has them.
 #[derive(Debug, Drop)]
 pub struct Rehearsed {
-    pub landed: Vec<Plain>,
     pub report: Report,
     pub down: Vec<u8>,
     pub up: Vec<u8>,
 }
 
-/// Why nothing landed.
+/// Why a run ended early.
 #[derive(Debug, Drop)]
 pub enum Failure {
     /// The source failed, and has counted a fault.
     Source,
+    /// The depot failed, and has counted a fault. Some files may stand in it.
+    Disk,
     /// The tree is refused.
     Refused(RefusedKind),
     /// Memory ran out.
@@ -48,13 +55,59 @@ impl From<SourceFail> for Failure {
     }
 }
 
-/// Copies the source's tree.
-pub fn rehearse<S: Source>(alloc: Global, source: &mut S) -> Result<Rehearsed, Failure>
-    ensures report { IfOk result (λ run. IsReportOf (map shown run.landed.items) run.report) }
+/// Copies the source's tree into the depot: all of it is sent first, and then each file is stored and
+/// synced. A source that fails and a tree that is refused leave the depot as it was.
+pub fn rehearse<S: Source, D: Depot>(
+    alloc: Global,
+    source: &mut S,
+    depot: &mut D,
+) -> Result<Rehearsed, Failure>
+    requires { (D.state depot.old).spots ≡ [] }
+    // Each file of the tree stands in the depot, as it is read and whatever a crash leaves; every other
+    // path is as it was.
+    ensures landed { OnOk result (IfSome (S.told source.old) (λ files. Lands files (D.state depot.old).told (D.state depot.new).told)) }
+    ensures report { IfOk result (λ run. IsReportFor (S.listing source.old) run.report) }
+    ensures later { S.faults source.old ≤ S.faults source.new }
+    ensures cause { IfErr result (IsCause (S.listing source.old) (S.faults source.old) (S.faults source.new) (Rises (D.state depot.old).faults (D.state depot.new).faults)) }
+    // Unless the source fails or memory runs out, a listing that is refused is refused for just that.
+    ensures refuses { IfSome (S.listing source.old) (λ entries. (kind : RefusedKind) → IsRefusedFor entries kind → Stands (S.faults source.old) (S.faults source.new) → RefusesRun result kind) }
+    ensures slips { IfSome (S.told source.old) (λ files. S.slips source.new ≡ S.slips source.old) }
+    ensures untouched { IfErr result (IsUntouched (D.state depot.old) (D.state depot.new)) }
+    ensures counts { Counts (IsErrOf result Failure.Disk) (D.state depot.old) (D.state depot.new) }
+    ensures depot_slips { IfTold (λ t. (D.state depot.new).slips ≡ (D.state depot.old).slips) (D.state depot.old).told }
+    ensures spots { (D.state depot.new).spots ≡ [] }
+{
+    let sent = match send(alloc, source) {
+        Ok(sent) => sent,
+        Err(fail) => return Err(fail),
+    };
+    let Sent {
+        landed,
+        report,
+        down,
+        up,
+    } = sent;
+    match store(depot, landed) {
+        Ok(()) => Ok(Rehearsed { report, down, up }),
+        Err(DepotFail::Failed) => Err(Failure::Disk),
+        Err(DepotFail::NoMemory) => Err(Failure::NoMemory),
+    }
+}
+
+// What was sent and has landed.
+struct Sent {
+    landed: Vec<Plain>,
+    report: Report,
+    down: Vec<u8>,
+    up: Vec<u8>,
+}
+
+// Sends the source's tree over one lane.
+fn send<S: Source>(alloc: Global, source: &mut S) -> Result<Sent, Failure>
+    ensures report { IfOk result (λ run. IsReportFor (S.listing source.old) run.report) }
     ensures tree { IfOk result (λ run. IfSome (S.told source.old) (λ files. map shown run.landed.items ≡ files)) }
     ensures later { S.faults source.old ≤ S.faults source.new }
-    ensures cause { IfErr result (IsCause (S.listing source.old) (S.faults source.old) (S.faults source.new)) }
-    // Unless the source fails or memory runs out, a listing that is refused is refused for just that.
+    ensures cause { IfErr result (IsCause (S.listing source.old) (S.faults source.old) (S.faults source.new) ⊥) }
     ensures refuses { IfSome (S.listing source.old) (λ entries. (kind : RefusedKind) → IsRefusedFor entries kind → Stands (S.faults source.old) (S.faults source.new) → RefusesRun result kind) }
     ensures slips { IfSome (S.told source.old) (λ files. S.slips source.new ≡ S.slips source.old) }
 {
@@ -72,15 +125,15 @@ pub fn rehearse<S: Source>(alloc: Global, source: &mut S) -> Result<Rehearsed, F
         Err(fail) => return Err(unplanned(fail)),
     };
     match transfer(alloc, source, &manifest, &blocks, begun) {
-        Ok(sent) => Ok(Rehearsed {
-            landed: sent.landed,
+        Ok(moved) => Ok(Sent {
+            landed: moved.landed,
             report: Report {
                 files: manifest.count(),
                 blocks: blocks.len() as u64,
                 bytes: manifest.total(),
             },
-            down: sent.down,
-            up: sent.up,
+            down: moved.down,
+            up: moved.up,
         }),
         Err(fail) => Err(Failure::from(fail)),
     }

@@ -1,12 +1,12 @@
 //! A rehearsal's one lane. Each half spells its messages onto a list of bytes, and is given the bytes
 //! of the other half's list and nothing else.
-ghost use Rattle.std.specs.Prelude.{◌≡◌, ◌≤◌, ◌+◌, ◌^◌, min, true, false, List, ℕ, [], length, map, sum_by, IfOk, IfSome, OnOk, IsOkUnless, IsSome, IsTrue};
+ghost use Rattle.std.specs.Prelude.{◌≡◌, ◌≤◌, ◌+◌, ◌++◌, ◌^◌, min, true, false, List, ℕ, [], length, map, sum_by, IfOk, IfSome, OnOk, IsOkUnless, IsSome, IsTrue};
 ghost use Rattle.wdt_units.specs.Tree.{file_of};
 ghost use Rattle.wdt_tree.specs.Cuts.{blocks_in, cuts};
 ghost use Rattle.wdt_tree.specs.Listing.{is_entry, size_of};
 ghost use Rattle.wdt_tree.specs.Shown.{shown, entry_of_file};
 ghost use Rattle.wdt_source.specs.Told.{HasFault, is_within_file};
-ghost use Rattle.wdt_codec.specs.Frames.{Fits, owed_by};
+ghost use Rattle.wdt_codec.specs.Frames.{Fits, owed_by, spell};
 ghost use Rattle.wdt_codec.specs.declared.frames.Frame.TheVariants as frames;
 ghost use Rattle.wdt_rehearsal.specs.Landing.{HasSize};
 ghost use Rattle.wdt_rehearsal.specs.Received.{progress, nothing_held, after_frame};
@@ -114,7 +114,8 @@ pub fn transfer<S: Source>(
 // Hears the receiving half's last word, once it has taken the sender's.
 fn hear_done(alloc: Global, up: &mut Vec<u8>, receiver: &Receiver) -> Result<(), SourceFail>
     requires { (progress receiver.now).stage ≡ stages.Bye }
-    ensures { IsOkUnless result SourceFail.NoMemory }
+    ensures heard { OnOk result (up.new.items ≡ up.old.items ++ spell frames.Done) }
+    ensures fail { IsOkUnless result SourceFail.NoMemory }
 {
     let start = up.len();
     receiver.answer(up)?;

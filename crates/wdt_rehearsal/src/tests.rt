@@ -1,14 +1,18 @@
 //! What no clause says: that a run succeeds where there is memory, and worked examples of the bytes of
 //! both ways.
+ghost use Rattle.std.specs.Prelude.{◌≡◌, [], IfOk};
+ghost use Rattle.wdt_depot.specs.MemState.{mem_state};
 
-use crate::rehearse;
+use crate::{Failure, rehearse};
 use std::alloc::Global;
+use std::process::Abort;
 use std::test::Fail;
+use wdt_depot::MemDepot;
 use wdt_source::MemSource;
 use wdt_tree::Plain;
 use wdt_units::Name;
 
-fn files_of(alloc: Global, files: &[(&str, &str)]) -> Result<Vec<Plain>, Fail> {
+fn source_of(rt: &impl Abort, alloc: Global, files: &[(&str, &str)]) -> Result<MemSource, Fail> {
     let mut plain = Vec::new(alloc);
     for (path, bytes) in files {
         plain.push(Plain {
@@ -17,7 +21,16 @@ fn files_of(alloc: Global, files: &[(&str, &str)]) -> Result<Vec<Plain>, Fail> {
             bytes: Vec::from_slice(alloc, bytes.as_bytes())?,
         })?;
     }
-    Ok(plain)
+    assert!(rt; plain.len() < 4_294_967_296);
+    Ok(MemSource::of(plain, Vec::new(alloc)))
+}
+
+// An empty depot whose changing calls of these numbers fail.
+fn depot_of(alloc: Global, fails: &[u32]) -> Result<MemDepot, Fail>
+    ensures { IfOk result (λ depot. (mem_state depot).spots ≡ []) }
+{
+    let depot = MemDepot::of(alloc, Vec::new(alloc), Vec::from_slice(alloc, fails)?)?;
+    Ok(depot)
 }
 
 // Down: settings of version 1, session 1, lane 0 of 1, connection 1, blocks of 16,777,216 bytes, which
@@ -40,14 +53,24 @@ fn both_ways_have_their_frames(rt: HostRuntime) -> Result<(), Fail> {
         ),
     ];
     for (files, down) in trees {
-        let mut source = MemSource::of(files_of(alloc, files)?, Vec::new(alloc));
-        let sent = rehearse(alloc, &mut source)?;
+        let mut source = source_of(&rt, alloc, files)?;
+        let mut depot = depot_of(alloc, &[])?;
+        let sent = rehearse(alloc, &mut source, &mut depot)?;
         assert_eq!(rt; sent.down.as_slice(), down);
         assert_eq!(rt;
             sent.up.as_slice(),
             b"\x47\0\0\0\0\0\x43\0\0\0\0\x4c".as_slice()
         );
-        assert_eq!(rt; sent.landed.len(), files.len());
     }
+    Ok(())
+}
+
+#[test]
+fn a_failing_depot_is_answered(rt: HostRuntime) -> Result<(), Fail> {
+    let alloc = rt.alloc();
+    let mut source = source_of(&rt, alloc, &[("a", "hi")])?;
+    let mut depot = depot_of(alloc, &[2])?;
+    let run = rehearse(alloc, &mut source, &mut depot);
+    assert!(rt; matches!(run, Err(Failure::Disk)));
     Ok(())
 }

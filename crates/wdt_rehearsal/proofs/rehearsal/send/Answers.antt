@@ -7,11 +7,11 @@ use Rattle.wdt_tree.specs.Rest.{IsRest}
 use Rattle.wdt_tree.specs.Shown.{entry_of_file}
 use Rattle.wdt_discover.specs.declared.fail.PlanFail.TheVariants as plans
 use Rattle.wdt_discover.specs.Plan.{refusal}
-use Rattle.wdt_rehearsal.specs.declared.rehearsal.Rehearsed.{Rehearsed}
+use Rattle.wdt_rehearsal.specs.declared.rehearsal.Sent.{Sent}
 use Rattle.wdt_rehearsal.specs.Causes.{IsCause}
 use Rattle.wdt_rehearsal.proofs.Listed.{told-ordered}
 use Rattle.wdt_rehearsal.proofs.Planned.{IsToldRun, planned-cuts, plan-refused, none-refused, plan-cause, plan-failure}
-use Rattle.wdt_rehearsal.proofs.rehearsal.rehearse.Goals as goal
+use Rattle.wdt_rehearsal.proofs.rehearsal.send.Goals as goal
 
 pub unplanned-requires : goal.unplanned-requires
 unplanned-requires g c =
@@ -31,17 +31,17 @@ transfer-requires-clause-blocks g c =
 pub returns-in-Err-plan-clause-cause : goal.returns-in-Err-plan-clause-cause
 returns-in-Err-plan-clause-cause g c =
     let refused = subst (λ (have : List HaveFile). (c.in-Err-plan.fail ≡ plans.NoMemory → ⊥) → refusal c.in-Ok-check.manifest have 16777216 ≡ Some c.in-Err-plan.fail) c.in_ok-begun.ensures.begun.nothing c.in-Err-plan.ensures.refused in
-    subst (λ failure. IsCause (g.S.Source.listing c.args.source.now) (g.S.Source.faults c.args.source.now) (g.S.Source.faults c.list.new.self) failure) (sym c.unplanned.ensures)
-    (plan-cause (g.S.Source.listing c.args.source.now) (map entry_of c.in-Ok.raw.items) c.in-Ok-check.manifest (g.S.Source.faults c.args.source.now) (g.S.Source.faults c.list.new.self) c.in-Err-plan.fail c.in-Ok.ensures.listed c.in-Ok-check.ensures.accepted c.in-Ok-check.ensures.entries refused)
+    subst (λ failure. IsCause (g.S.Source.listing c.args.source.now) (g.S.Source.faults c.args.source.now) (g.S.Source.faults c.list.new.self) ⊥ failure) (sym c.unplanned.ensures)
+    (plan-cause (g.S.Source.listing c.args.source.now) (map entry_of c.in-Ok.raw.items) c.in-Ok-check.manifest (g.S.Source.faults c.args.source.now) (g.S.Source.faults c.list.new.self) ⊥ c.in-Err-plan.fail c.in-Ok.ensures.listed c.in-Ok-check.ensures.accepted c.in-Ok-check.ensures.entries refused)
 
 pub returns-in-Err-plan-clause-refuses : goal.returns-in-Err-plan-clause-refuses
 returns-in-Err-plan-clause-refuses g c =
     let refused = subst (λ (have : List HaveFile). (c.in-Err-plan.fail ≡ plans.NoMemory → ⊥) → refusal c.in-Ok-check.manifest have 16777216 ≡ Some c.in-Err-plan.fail) c.in_ok-begun.ensures.begun.nothing c.in-Err-plan.ensures.refused in
-    subst (λ failure. IsToldRun {A = Rehearsed} (g.S.Source.listing c.args.source.now) (g.S.Source.faults c.args.source.now) (g.S.Source.faults c.list.new.self) (Err failure)) (sym c.unplanned.ensures)
-    (plan-refused Rehearsed (List Entry) c.in-Ok-check.manifest (g.S.Source.listing c.args.source.now) (map entry_of c.in-Ok.raw.items) c.in-Ok-check.manifest (g.S.Source.faults c.args.source.now) (g.S.Source.faults c.list.new.self) c.in-Err-plan.fail c.in-Ok.ensures.listed c.in-Ok-check.ensures.refuses c.in-Ok-check.ensures.entries refused)
+    subst (λ failure. IsToldRun {A = Sent} (g.S.Source.listing c.args.source.now) (g.S.Source.faults c.args.source.now) (g.S.Source.faults c.list.new.self) (Err failure)) (sym c.unplanned.ensures)
+    (plan-refused Sent (List Entry) c.in-Ok-check.manifest (g.S.Source.listing c.args.source.now) (map entry_of c.in-Ok.raw.items) c.in-Ok-check.manifest (g.S.Source.faults c.args.source.now) (g.S.Source.faults c.list.new.self) c.in-Err-plan.fail c.in-Ok.ensures.listed c.in-Ok-check.ensures.refuses c.in-Ok-check.ensures.entries refused)
 
 pub returns-in-Ok-transfer-clause-refuses : goal.returns-in-Ok-transfer-clause-refuses
 returns-in-Ok-transfer-clause-refuses g c =
     let rest = subst (λ (have : List HaveFile). IsRest c.in-Ok-check.manifest have 16777216 c.in-Ok-plan.blocks.items) c.in_ok-begun.ensures.begun.nothing c.in-Ok-plan.ensures.rest in
-    none-refused Rehearsed (List Entry) c.in-Ok-check.manifest (g.S.Source.listing c.args.source.now) (map entry_of c.in-Ok.raw.items) c.in-Ok-check.manifest c.in-Ok-plan.blocks.items (g.S.Source.faults c.args.source.now) (g.S.Source.faults c.transfer.new.source)
-    (Ok (record { landed = c.in-Ok-transfer.sent.landed; report = record { files = c.count.result; blocks = c.len.result; bytes = c.total.result }; down = c.in-Ok-transfer.sent.down; up = c.in-Ok-transfer.sent.up })) c.in-Ok.ensures.listed c.in-Ok-check.ensures.refuses c.in-Ok-check.ensures.entries rest c.in-Ok-plan.ensures.few
+    none-refused Sent (List Entry) c.in-Ok-check.manifest (g.S.Source.listing c.args.source.now) (map entry_of c.in-Ok.raw.items) c.in-Ok-check.manifest c.in-Ok-plan.blocks.items (g.S.Source.faults c.args.source.now) (g.S.Source.faults c.transfer.new.source)
+    (Ok (record { landed = c.in-Ok-transfer.moved.landed; report = record { files = c.count.result; blocks = c.len.result; bytes = c.total.result }; down = c.in-Ok-transfer.moved.down; up = c.in-Ok-transfer.moved.up })) c.in-Ok.ensures.listed c.in-Ok-check.ensures.refuses c.in-Ok-check.ensures.entries rest c.in-Ok-plan.ensures.few
