@@ -1,14 +1,10 @@
 -- How many files and bytes of a tree are left, file by file.
-use Rattle.std.proofs.Common.{◌≡◌, ℕ, ◌+◌, ◌-◌, ◌≤◌, List, [], ◌∷◌, length, map, take, sum_by, slice_get, Some, refl, sym, ap, ◌∙◌, arith}
-use Rattle.std.proofs.lemmas.List.{length-map, take_all}
-use Rattle.std.proofs.lemmas.List.Sums.{sum_by-cons, sum_by_more, sum_by_more_le}
+use Rattle.std.proofs.Common.{◌≡◌, ℕ, ◌+◌, ◌-◌, ◌≤◌, List, length, take, sum_by, slice_get, Some, ap, ◌∙◌, arith}
+use Rattle.std.proofs.lemmas.List.{take_all}
+use Rattle.std.proofs.lemmas.List.Sums.{sum_by_more, sum_by_more_le}
 use Rattle.std.proofs.lemmas.Option.{slice_get_within, get_or_from_slice_get}
 use Rattle.wdt_tree.specs.declared.entry.Entry.{Entry}
-use Rattle.wdt_tree.specs.Cuts.{cuts}
-use Rattle.wdt_units.specs.Tree.{File, length_of}
 use Rattle.wdt_tree.specs.Listing.{size_of}
-use Rattle.wdt_tree.specs.Shown.{entry_of_file}
-use Rattle.wdt_tree.proofs.Cuts.{cuts_rest}
 use Rattle.wdt_rehearsal.specs.declared.receiver.Stage.TheVariants.{Blocks}
 use Rattle.wdt_rehearsal.specs.Sending.{HasRoom, less}
 

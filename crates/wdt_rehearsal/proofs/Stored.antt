@@ -1,13 +1,12 @@
 -- Files that come to stand in a depot, call by call.
-use Rattle.std.proofs.Common.{◌≡◌, ◌⊎◌, ℕ, ◌+◌, ◌-◌, ◌≤◌, ◌<◌, nat_lt, ◌&&◌, cond, Bool, true, false, List, [], ◌∷◌, ◌++◌, length, take, drop, Option, Some, None, Result, Ok, Err, refl, sym, ap, ◌∙◌, subst, append_assoc, arith}
-use Rattle.std.specs.Prelude.{if◌then◌else◌, option_map, replicate, is_none, ◌^◌, IsSome, OnOk}
+use Rattle.std.proofs.Common.{◌≡◌, ℕ, ◌+◌, ◌-◌, ◌≤◌, nat_lt, ◌&&◌, cond, Bool, true, false, List, [], ◌∷◌, ◌++◌, length, take, drop, Option, Some, None, Result, Ok, Err, refl, sym, ap, ◌∙◌, subst, append_assoc, arith}
+use Rattle.std.specs.Prelude.{if◌then◌else◌, option_map, replicate, is_none, ◌^◌, OnOk}
 use Rattle.std.specs.Str.{bytes_eq}
 use Rattle.std.proofs.Math.Bool.{and-false}
-use Rattle.std.proofs.Math.Seq.{take-append_seam}
+use Rattle.std.proofs.Math.Seq.{take-length}
 use Rattle.std.proofs.lemmas.Bool.{eq-eqb, le-ltb}
 use Rattle.std.proofs.lemmas.List.{append-nil, drop_all}
 use Rattle.std.proofs.lemmas.Slice.Eq.{bytes_eq-Decides}
-use Rattle.wdt_units.specs.Counts.{Rises}
 use Rattle.wdt_units.specs.declared.failures.Failed.{Failed}
 use Rattle.wdt_units.specs.Tree.{File, file_of}
 use Rattle.wdt_depot.specs.Disk.{Disk, DiskFile, clean, made, spliced, synced_at, with_file, write_file, wrote}
@@ -35,12 +34,9 @@ unfolding spliced
 spliced_end front piece offset long =
     let none : offset - length front ≡ 0 = omega arith in
     let gap : front ++ replicate (offset - length front) 0 ≡ front = ap (λ n. front ++ replicate n 0) none ∙ append-nil front in
-    let before : take offset (front ++ replicate (offset - length front) 0) ≡ front = ap (take offset) gap ∙ ap (λ n. take n front) (sym long) ∙ take_whole front in
+    let before : take offset (front ++ replicate (offset - length front) 0) ≡ front = ap (take offset) gap ∙ ap (λ n. take n front) (sym long) ∙ take-length front in
     let behind : drop (offset + length piece) front ≡ [] = drop_all (offset + length piece) front (omega arith) in
     ap (λ x. x ++ piece ++ drop (offset + length piece) front) before ∙ ap (λ x. front ++ piece ++ x) behind ∙ append-nil (front ++ piece)
-  where
-    take_whole : (xs : List ℕ) → take (length xs) xs ≡ xs
-    take_whole xs = ap (take (length xs)) (sym (append-nil xs)) ∙ take-append_seam xs []
 
 -- ---- a changing call at a path
 
@@ -104,17 +100,7 @@ need-no_slip F r x path n (Some t) None s1 s2 does counts kept = absurd does
 need-no_slip F r x path n (Some t) (Some u) s1 s2 does counts kept =
     counts.none (ap (λ (d : Disk). is_none (d path)) does.0 ∙ ap (λ (o : Option DiskFile). is_none o) (with_file-same path (Some (clean [])) t.now)) ∙ kept
 
--- ---- whether a disk is told stays
-
-pub told-before : (P : Type 0) (R : Disk → Disk → Type 0) (a b : Option Told) → OneStep R a b → IfTold (λ t. P) b → IfTold (λ t. P) a
-told-before P R None b does h = tt
-told-before P R (Some t) None does h = absurd does
-told-before P R (Some t) (Some u) does h = h
-
-pub told-at : (P : Type 0) (path : List ℕ) (Q : DiskFile → Type 0) (a b : Option Told) → Stands path Q a b → IfTold (λ t. P) b → IfTold (λ t. P) a
-told-at P path Q None b at h = tt
-told-at P path Q (Some t) None at h = absurd at
-told-at P path Q (Some t) (Some u) at h = h
+-- ---- what is said where a disk is told
 
 pub told-landed : (P : Type 0) (files : List File) (a b : Option Told) → Lands files a b → IfTold (λ t. P) b → IfTold (λ t. P) a
 told-landed P files None b lands h = tt
@@ -142,45 +128,6 @@ fine-more F s0 s1 s2 fine counts ok slips = record {
   later = omega (arith, fine.later, counts.slips);
   slips = slips;
 }
-
--- behind calls that didn't fail
-pub counts-behind : (F : Type 0) (s0 s1 s2 : State) → IsFine s0 s1 → Counts F s1 s2 → Counts F s0 s2
-counts-behind F s0 s1 s2 fine counts = record {
-  faults = omega (arith, fine.faults, counts.faults);
-  own = omega (arith, fine.own, counts.own);
-  own_then = counts.own_then ∙ fine.own_then;
-  slips = omega (arith, fine.later, counts.slips);
-  rose = λ failed. subst (λ n. Rises n s2.faults) fine.faults (counts.rose failed);
-  cause = λ failed. subst (λ n. IsSome s2.stop.struck ⊎ Rises n s2.own) fine.own (counts.cause failed);
-  struck = λ struck. counts.struck struck ∙ fine.own;
-  fine = λ ok. ((counts.fine ok).0 ∙ fine.faults, (counts.fine ok).1 ∙ fine.own);
-}
-
--- the same failure by another name
-pub counts-as : (F G : Type 0) (s0 s1 : State) → (F → G) → (G → F) → Counts F s0 s1 → Counts G s0 s1
-counts-as F G s0 s1 there back counts = record {
-  faults = counts.faults;
-  own = counts.own;
-  own_then = counts.own_then;
-  slips = counts.slips;
-  rose = λ failed. counts.rose (back failed);
-  cause = λ failed. counts.cause (back failed);
-  struck = counts.struck;
-  fine = λ ok. counts.fine (λ failed. ok (there failed));
-}
-
--- all calls so far went well
-pub fine-counts : (F : Type 0) (s0 s1 : State) → IsFine s0 s1 → (F → ⊥) → Counts F s0 s1
-fine-counts F s0 s1 fine ok = counts-behind F s0 s1 s1 fine (record {
-  faults = omega arith;
-  own = omega arith;
-  own_then = refl;
-  slips = omega arith;
-  rose = λ failed. absurd (ok failed);
-  cause = λ failed. absurd (ok failed);
-  struck = λ struck. refl;
-  fine = λ none. (refl, refl);
-})
 
 -- ---- files, one behind the other
 
@@ -246,9 +193,6 @@ more-landed all left rest file a b c so_far is next = record {
   whole = so_far.whole ∙ ap (λ x. x ++ so_far.landed) is ∙ append_assoc rest (file ∷ []) so_far.landed;
   lands = lands-more file so_far.landed a b c so_far.lands next;
 }
-
-pub all-landed : (all left : List File) (a b : Option Told) → HasLanded all left a b → left ≡ [] → Lands all a b
-all-landed all left a b so_far none = subst (λ (files : List File). Lands files a b) (sym (so_far.whole ∙ ap (λ x. x ++ so_far.landed) none)) so_far.lands
 
 -- ---- by the states of a depot
 

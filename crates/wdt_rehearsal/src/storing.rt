@@ -1,5 +1,5 @@
 //! The way of a tree's files into a depot.
-ghost use Rattle.std.specs.Prelude.{◌≡◌, [], ◌∷◌, length, map, IsErrOf, OnOk};
+ghost use Rattle.std.specs.Prelude.{◌≡◌, [], ◌∷◌, map, IsErrOf, OnOk};
 ghost use Rattle.wdt_depot.specs.Moments.{IfTold};
 ghost use Rattle.wdt_depot.specs.State.{Counts, IsEntered, at_spot};
 ghost use Rattle.wdt_tree.specs.Shown.{shown};

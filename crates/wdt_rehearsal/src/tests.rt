@@ -33,6 +33,14 @@ fn depot_of(alloc: Global, fails: &[u32]) -> Result<MemDepot, Fail>
     Ok(depot)
 }
 
+// Whether the file at a path reads as these bytes.
+fn shows(depot: &MemDepot, path: &Name, bytes: &[u8]) -> bool {
+    match depot.shown(path) {
+        Some(found) => found == bytes,
+        None => false,
+    }
+}
+
 // Down: settings of version 1, session 1, lane 0 of 1, connection 1, blocks of 16,777,216 bytes, which
 // ask; then the size, each block behind its header, and two times the last word. Up: the greeting of
 // lane 0, that there is nothing, and the last word.
@@ -62,6 +70,20 @@ fn both_ways_have_their_frames(rt: HostRuntime) -> Result<(), Fail> {
             b"\x47\0\0\0\0\0\x43\0\0\0\0\x4c".as_slice()
         );
     }
+    Ok(())
+}
+
+#[test]
+fn a_copy_shows_each_files_bytes(rt: HostRuntime) -> Result<(), Fail> {
+    let alloc = rt.alloc();
+    let a = Name::read(alloc, b"a")?;
+    let b = Name::read(alloc, b"b/c")?;
+    let mut source = source_of(&rt, alloc, &[("b/c", ""), ("a", "hi")])?;
+    let mut depot = depot_of(alloc, &[])?;
+    let run = rehearse(alloc, &mut source, &mut depot)?;
+    assert_eq!(rt; run.report.bytes, 2);
+    assert!(rt; shows(&depot, &a, b"hi"));
+    assert!(rt; shows(&depot, &b, b""));
     Ok(())
 }
 

@@ -2,7 +2,6 @@ use Rattle.std.proofs.Common.{◌≡◌, ◌∙◌, ◌++◌, [], ◌∷◌, Ok,
 use Rattle.std.specs.Prelude.{IsErrOf}
 use Rattle.std.proofs.lemmas.List.{map-append}
 use Rattle.wdt_depot.specs.declared.failure.DepotFail.TheVariants.{Failed}
-use Rattle.wdt_tree.specs.declared.entry.Plain.{Plain}
 use Rattle.wdt_tree.specs.Shown.{shown}
 use Rattle.wdt_rehearsal.proofs.Stored.{fine-none, fine-more, none-landed, more-landed, slips-landed}
 use Rattle.wdt_rehearsal.proofs.storing.store.Goals as goal
