@@ -1,1 +1,5 @@
-pub mod Complete
+pub mod Found
+pub mod Numbered
+pub mod Refused
+pub mod Spelled
+pub mod Untouched

@@ -3,9 +3,7 @@ use Rattle.std.specs.Prelude.{◌≡◌, ℕ, ◌==◌, if◌then◌else◌, Lis
 use Rattle.std.specs.List.{flat_map}
 use Rattle.std.specs.Fmt.{decimal}
 use Rattle.wdt_units.specs.Counts.{Stands}
-use Rattle.wdt_tree.specs.declared.entry.Entry.{Entry}
 use Rattle.wdt_rehearsal.specs.declared.report.Report.{Report}
-use Rattle.wdt_rehearsal.specs.Reports.{IsReportFor}
 use Rattle.wdt_cli.specs.declared.status.Status.{Status}
 use Rattle.wdt_cli.specs.declared.status.Status.TheVariants.{Done, Usage, SourceFault, DiskFault, Refused, OutFault, NoMemory}
 use Rattle.wdt_sender_fsm.specs.declared.answers.RefusedKind.{RefusedKind}
@@ -50,12 +48,12 @@ abbrev pub GotMost : List ℕ → ℕ → ℕ → Option (List ℕ) → Option (
 GotMost text before after None new = new ≡ None
 GotMost text before after (Some old) new = (n : ℕ) × (new ≡ Some (old ++ take n text)) × (Stands before after → new ≡ Some (old ++ text))
 
--- what the sink got behind each status: the report of the tree that was listed, or the one last line
-abbrev pub Prints : Status → Option (List Entry) → ℕ → ℕ → Option (List ℕ) → Option (List ℕ) → Type 0
-Prints Done listing before after old new = (report : Report) × IsReportFor listing report × Got (done_text report) old new
-Prints Usage listing before after old new = GotMost (codes "usage\n") before after old new
-Prints SourceFault listing before after old new = GotMost (codes "source fault\n") before after old new
-Prints DiskFault listing before after old new = GotMost (codes "disk fault\n") before after old new
-Prints (Refused kind) listing before after old new = GotMost (refusal_line kind) before after old new
-Prints OutFault listing before after old new = Unit {0}
-Prints NoMemory listing before after old new = Unit {0}
+-- the one last line of a run that isn't done
+abbrev pub PrintsLine : Status → ℕ → ℕ → Option (List ℕ) → Option (List ℕ) → Type 0
+PrintsLine Done before after old new = ⊥
+PrintsLine Usage before after old new = GotMost (codes "usage\n") before after old new
+PrintsLine SourceFault before after old new = GotMost (codes "source fault\n") before after old new
+PrintsLine DiskFault before after old new = GotMost (codes "disk fault\n") before after old new
+PrintsLine (Refused kind) before after old new = GotMost (refusal_line kind) before after old new
+PrintsLine OutFault before after old new = Unit {0}
+PrintsLine NoMemory before after old new = Unit {0}

@@ -8,18 +8,27 @@ pub const USAGE: &str = "\
 wdt copies a directory tree from a sender to a receiver.
 
 usage:
-  wdt rehearse SRC    copies the files below the folder SRC into memory, over one
-                      wire, and prints what was sent; nothing is written anywhere
-                      example: wdt rehearse photos
-  wdt --help          prints this
-  wdt --version       prints the version
+  wdt rehearse SRC              copies the files below the folder SRC into memory, over
+                                one connection, and prints what was sent; nothing is
+                                written anywhere
+                                example: wdt rehearse photos
+  wdt plan SRC DST [--block N]  lists what the folder DST still lacks of SRC by its log,
+                                in blocks of at most N bytes: 1 to 67108864, or else
+                                16777216; nothing is written anywhere
+                                example: wdt plan photos backup --block 1048576
+  wdt log DST                   prints what the log of the folder DST says
+                                example: wdt log backup
+  wdt --help                    prints this
+  wdt --version                 prints the version
+
+SRC and DST are words that don't begin with `-`.
 
 exit statuses:
   0   done
   1   the words are no command
   2   the source failed
   3   the destination failed
-  7   the tree is refused
+  7   refused: the tree, the log, or the one against the other
   8   standard output failed
   10  memory ran out
 ";

@@ -52,8 +52,8 @@ fn stale_line(alloc: Global, path: &[u8]) -> Result<Vec<u8>, AllocError>
     Ok(line)
 }
 
-// Appends a path on one line: a backslash is printed as two, and a line feed as a backslash and an n.
-fn push_printed(line: &mut Vec<u8>, path: &[u8]) -> Result<(), AllocError>
+/// Appends a path on one line: a backslash is printed as two, and a line feed as a backslash and an n.
+pub fn push_printed(line: &mut Vec<u8>, path: &[u8]) -> Result<(), AllocError>
     ensures { OnOk result (line.new.items ≡ line.old.items ++ printed path.now) }
 {
     for byte in path {

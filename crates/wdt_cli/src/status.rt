@@ -10,9 +10,9 @@ pub enum Status {
     Usage,
     /// The source failed.
     SourceFault,
-    /// The depot failed. Some files may stand in it.
+    /// The depot failed.
     DiskFault,
-    /// The tree is refused.
+    /// The command is refused.
     Refused(RefusedKind),
     /// The lines couldn't be written, and all else went well.
     OutFault,
@@ -24,7 +24,7 @@ pub enum Status {
 #[derive(Debug, Drop)]
 pub struct Tooled<D> {
     pub status: Status,
-    /// The depot, with the tree's files where the run is done.
+    /// The depot, with the files of the source's tree where a rehearsal is done.
     pub depot: D,
 }
 

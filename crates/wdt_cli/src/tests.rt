@@ -1,180 +1,174 @@
 //! What no clause says: that the runs succeed, and worked examples of their lines.
-ghost use Rattle.std.specs.Prelude.{◌≡◌, [], None, IfOk};
-ghost use Rattle.wdt_depot.specs.MemState.{mem_state};
-
-use crate::status::Status;
+use crate::fixtures::{LOG, paths_of, run, words_of};
 use crate::tool::tool;
-use std::alloc::Global;
-use std::process::Abort;
 use std::test::Fail;
-use wdt_depot::MemDepot;
-use wdt_source::{MemSource, Source, SourceFail};
-use wdt_tree::{Plain, RawEntry};
+use wdt_depot::{Crash, Depot, MemDepot};
+use wdt_source::MemSource;
 use wdt_units::{MemSink, Name};
 
-fn words_of(alloc: Global, texts: &[&str]) -> Result<Vec<String>, Fail> {
-    let mut words = Vec::new(alloc);
-    for text in texts {
-        words.push(String::from_str(alloc, text)?)?;
-    }
-    Ok(words)
-}
-
-fn plain(alloc: Global, path: &str, bytes: &str) -> Result<Plain, Fail> {
-    Ok(Plain {
-        path: Name::read(alloc, path.as_bytes())?,
-        stamp: 0,
-        bytes: Vec::from_slice(alloc, bytes.as_bytes())?,
-    })
-}
-
-// An empty depot.
-fn no_files(alloc: Global) -> Result<MemDepot, Fail>
-    ensures { IfOk result (λ depot. (mem_state depot).spots ≡ []) }
-{
-    let depot = MemDepot::of(alloc, Vec::new(alloc), Vec::new(alloc))?;
-    Ok(depot)
-}
-
-// The status and the lines of `rehearse SRC` on these files.
-fn rehearse(
-    rt: &impl Abort,
-    alloc: Global,
-    files: Vec<Plain>,
-    sink_fails: Vec<u32>,
-) -> Result<(Status, MemSink), Fail> {
-    assert!(rt; files.len() < 4_294_967_296);
-    let mut source = MemSource::of(files, Vec::new(alloc));
-    let mut out = MemSink::of(alloc, sink_fails);
-    let words = words_of(alloc, &["rehearse", "SRC"])?;
-    let tooled = tool(alloc, &words, &mut source, no_files(alloc)?, &mut out);
-    Ok((tooled.status, out))
-}
-
 #[test]
-fn empty_tree_is_copied(rt: HostRuntime) -> Result<(), Fail> {
-    let (status, out) = rehearse(&rt, rt.alloc(), Vec::new(rt.alloc()), Vec::new(rt.alloc()))?;
-    assert!(rt; matches!(status, Status::Done));
-    assert_eq!(rt;
-        out.bytes(),
-        b"files 0\nblocks 0\nbytes 0\nconnections 1\nrequeued 0\nclosed 0\nsessions 1\nok\n".as_slice()
-    );
-    Ok(())
-}
-
-#[test]
-fn one_file_is_copied_and_reported(rt: HostRuntime) -> Result<(), Fail> {
-    for (path, bytes, text) in [
+fn trees_are_copied_and_reported(rt: HostRuntime) -> Result<(), Fail> {
+    let trees: [(&[(&str, &[u8])], &[u8]); 3] = [
         (
-            "a",
-            "hi",
-            b"files 1\nblocks 1\nbytes 2\nconnections 1\nrequeued 0\nclosed 0\nsessions 1\nok\n".as_slice(),
+            &[],
+            b"files 0\nblocks 0\nbytes 0\nconnections 1\nrequeued 0\nclosed 0\nsessions 1\nok\n",
         ),
         (
-            "e",
-            "",
+            &[("a", b"hi")],
+            b"files 1\nblocks 1\nbytes 2\nconnections 1\nrequeued 0\nclosed 0\nsessions 1\nok\n",
+        ),
+        (
+            &[("e", b"")],
             b"files 1\nblocks 1\nbytes 0\nconnections 1\nrequeued 0\nclosed 0\nsessions 1\nok\n",
         ),
-    ] {
-        let files = vec![in rt.alloc(); plain(rt.alloc(), path, bytes)?]?;
-        let (status, out) = rehearse(&rt, rt.alloc(), files, Vec::new(rt.alloc()))?;
-        assert!(rt; matches!(status, Status::Done));
-        assert_eq!(rt; out.bytes(), text);
+    ];
+    for (files, text) in trees {
+        let (status, lines) = run(&rt, rt.alloc(), &["rehearse", "SRC"], files, &[])?;
+        assert_eq!(rt; status, 0);
+        assert_eq!(rt; lines.as_slice(), text);
     }
     Ok(())
 }
 
 #[test]
-fn a_failing_sink_is_answered(rt: HostRuntime) -> Result<(), Fail> {
-    let files = vec![in rt.alloc(); plain(rt.alloc(), "a", "hi")?]?;
-    let (status, out) = rehearse(&rt, rt.alloc(), files, vec![in rt.alloc(); 1u32]?)?;
-    assert!(rt; matches!(status, Status::OutFault));
-    assert_eq!(rt; out.bytes(), b"".as_slice());
+fn plans_list_what_is_lacking(rt: HostRuntime) -> Result<(), Fail> {
+    let plans: [(&[&str], &[(&str, &[u8])], &[(&str, &[u8])], u8, &[u8]); 5] = [
+        (
+            &["plan", "SRC", "DST", "--block", "4"],
+            &[("a", b"0123"), ("b", b"01234")],
+            &[],
+            0,
+            b"0 4 a\n0 4 b\n4 1 b\nblocks 3\nbytes 9\nok\n",
+        ),
+        // Nothing of the file is lacking by the log.
+        (
+            &["plan", "SRC", "DST"],
+            &[("a", b"hi")],
+            &[(".wlog", LOG)],
+            0,
+            b"blocks 0\nbytes 0\nok\n",
+        ),
+        // The log has another size.
+        (
+            &["plan", "SRC", "DST"],
+            &[("a", b"hi!")],
+            &[(".wlog", LOG)],
+            7,
+            b"refused: stale a\n",
+        ),
+        (
+            &["plan", "SRC", "DST"],
+            &[("a", b"hi")],
+            &[(".wlog", b"WDTL\0\x01\x01")],
+            7,
+            b"refused: bad log 7\n",
+        ),
+        // A path is printed on one line.
+        (
+            &["plan", "SRC", "DST"],
+            &[("a\\b\nc", b"hi")],
+            &[],
+            0,
+            b"0 2 a\\\\b\\nc\nblocks 1\nbytes 2\nok\n",
+        ),
+    ];
+    for (words, files, stored, status, text) in plans {
+        let (ended, lines) = run(&rt, rt.alloc(), words, files, stored)?;
+        assert_eq!(rt; ended, status);
+        assert_eq!(rt; lines.as_slice(), text);
+    }
+    Ok(())
+}
+
+#[test]
+fn logs_are_shown(rt: HostRuntime) -> Result<(), Fail> {
+    let logs: [(&[(&str, &[u8])], u8, &[u8]); 5] = [
+        (
+            &[(".wlog", LOG)],
+            0,
+            b"file 0 2 0 a\nrange 0 2\nend 52\nok\n",
+        ),
+        (&[], 0, b"no log\nok\n"),
+        // A gate that isn't open ends the log.
+        (&[(".wlog", b"WDTL\0\x01\x07")], 0, b"end 6\nok\n"),
+        (&[(".wlog", b"WDTL\0\x02\x07")], 7, b"refused: bad log 0\n"),
+        (&[(".wlog", b"WDTL\0\x01\x01")], 7, b"refused: bad log 7\n"),
+    ];
+    for (stored, status, text) in logs {
+        let (ended, lines) = run(&rt, rt.alloc(), &["log", "DST"], &[], stored)?;
+        assert_eq!(rt; ended, status);
+        assert_eq!(rt; lines.as_slice(), text);
+    }
     Ok(())
 }
 
 #[test]
 fn other_words_are_usage(rt: HostRuntime) -> Result<(), Fail> {
-    let forms: [&[&str]; 6] = [
+    let forms: [&[&str]; 15] = [
+        &[],
         &["rehearse"],
         &["rehearse", "SRC", "--lanes", "17"],
         &["rehearse", "SRC", "--block", "08"],
         &["rehearse", "-SRC"],
-        &[],
         &["copie", "SRC", "DST"],
+        &["plan", "a"],
+        &["plan", "a", ""],
+        &["plan", "a", "b", "--block"],
+        &["plan", "a", "b", "--block", "0"],
+        &["plan", "a", "b", "--block", "08"],
+        &["plan", "a", "b", "--block", "67108865"],
+        &["plan", "a", "b", "--block", "1", "--block", "1"],
+        &["log"],
+        &["log", "a", "b"],
     ];
     for words in forms {
-        let words = words_of(rt.alloc(), words)?;
-        let mut source = MemSource::of(Vec::new(rt.alloc()), Vec::new(rt.alloc()));
-        let mut out = MemSink::of(rt.alloc(), Vec::new(rt.alloc()));
-        let depot = no_files(rt.alloc())?;
-        let tooled = tool(rt.alloc(), &words, &mut source, depot, &mut out);
-        assert!(rt; matches!(tooled.status, Status::Usage));
-        assert_eq!(rt; out.bytes(), b"usage\n".as_slice());
+        let (status, lines) = run(&rt, rt.alloc(), words, &[], &[])?;
+        assert_eq!(rt; status, 1);
+        assert_eq!(rt; lines.as_slice(), b"usage\n".as_slice());
     }
+    let (status, _) = run(
+        &rt,
+        rt.alloc(),
+        &["plan", "a", "b", "--block", "67108864"],
+        &[],
+        &[],
+    )?;
+    assert_eq!(rt; status, 0);
     Ok(())
 }
 
-// A source that lists paths of any kind, each of a file with the same size and bytes, and tells
-// nothing.
-#[derive(Drop)]
-struct Paths {
-    paths: Vec<Vec<u8>>,
-    size: u64,
-    bytes: Vec<u8>,
+#[test]
+fn a_failing_sink_is_answered(rt: HostRuntime) -> Result<(), Fail> {
+    let alloc = rt.alloc();
+    let mut source = MemSource::of(Vec::new(alloc), Vec::new(alloc));
+    let depot = MemDepot::of(alloc, Vec::new(alloc), Vec::new(alloc))?;
+    let mut out = MemSink::of(alloc, vec![in alloc; 1u32]?);
+    let words = words_of(alloc, &["log", "DST"])?;
+    let tooled = tool(alloc, &words, &mut source, depot, &mut out);
+    assert_eq!(rt; tooled.status.code(), 8);
+    assert_eq!(rt; out.bytes(), b"".as_slice());
+    Ok(())
 }
 
-impl Source for Paths {
-    ghost told = { λ _. None };
-
-    ghost listing = { λ _. None };
-
-    ghost faults = { λ _. 18446744073709551615 };
-
-    ghost slips = { λ _. 0 };
-
-    fn list(&mut self, alloc: Global) -> Result<Vec<RawEntry>, SourceFail> {
-        let mut raw = Vec::new(alloc);
-        for path in &self.paths {
-            raw.push(RawEntry {
-                path: Vec::from_slice(alloc, path)?,
-                size: self.size,
-                stamp: 0,
-            })?;
-        }
-        if raw.len() < 4_294_967_296 {
-            return Ok(raw);
-        }
-        Err(SourceFail::Failed)
-    }
-
-    fn read_exact_at(&mut self, _: &Name, _: u64, into: &mut [u8]) -> Result<(), SourceFail> {
-        if into.len() != self.bytes.len() {
-            return Err(SourceFail::Failed);
-        }
-        into.copy_from_slice(&self.bytes);
-        Ok(())
-    }
-
-    ghost told_is_tree = { λ _. tt };
-
-    ghost told_is_listed = { λ _. tt };
-}
-
-fn paths_of(alloc: Global, paths: &[&[u8]], bytes: &[u8]) -> Result<Paths, Fail> {
-    let mut source = Paths {
-        paths: Vec::new(alloc),
-        size: bytes.len() as u64,
-        bytes: Vec::from_slice(alloc, bytes)?,
-    };
-    for path in paths {
-        source.paths.push(Vec::from_slice(alloc, path)?)?;
-    }
-    Ok(source)
+#[test]
+fn a_depot_that_is_down_is_answered(rt: HostRuntime) -> Result<(), Fail> {
+    let alloc = rt.alloc();
+    let mut source = MemSource::of(Vec::new(alloc), Vec::new(alloc));
+    let mut depot = MemDepot::of(alloc, Vec::new(alloc), Vec::new(alloc))?;
+    depot.arm(1, 0);
+    let made = depot.make(&Name::read(alloc, b"a")?);
+    assert!(rt; made.is_err());
+    let mut out = MemSink::of(alloc, Vec::new(alloc));
+    let words = words_of(alloc, &["plan", "SRC", "DST"])?;
+    let tooled = tool(alloc, &words, &mut source, depot, &mut out);
+    assert_eq!(rt; tooled.status.code(), 3);
+    assert_eq!(rt; out.bytes(), b"disk fault\n".as_slice());
+    Ok(())
 }
 
 #[test]
 fn paths_are_refused_at_their_place(rt: HostRuntime) -> Result<(), Fail> {
+    let alloc = rt.alloc();
     let long = [b'a'; 1025];
     let listings: [(&[&[u8]], u8, &[u8]); 5] = [
         (&[b"x/../y"], 7, b"refused: bad path 0\n"),
@@ -188,11 +182,11 @@ fn paths_are_refused_at_their_place(rt: HostRuntime) -> Result<(), Fail> {
         ),
     ];
     for (paths, status, line) in listings {
-        let mut source = paths_of(rt.alloc(), paths, b"")?;
-        let mut out = MemSink::of(rt.alloc(), Vec::new(rt.alloc()));
-        let words = words_of(rt.alloc(), &["rehearse", "SRC"])?;
-        let depot = no_files(rt.alloc())?;
-        let tooled = tool(rt.alloc(), &words, &mut source, depot, &mut out);
+        let mut source = paths_of(alloc, paths, b"")?;
+        let depot = MemDepot::of(alloc, Vec::new(alloc), Vec::new(alloc))?;
+        let mut out = MemSink::of(alloc, Vec::new(alloc));
+        let words = words_of(alloc, &["rehearse", "SRC"])?;
+        let tooled = tool(alloc, &words, &mut source, depot, &mut out);
         assert_eq!(rt; tooled.status.code(), status);
         assert_eq!(rt; out.bytes(), line);
     }
@@ -200,22 +194,18 @@ fn paths_are_refused_at_their_place(rt: HostRuntime) -> Result<(), Fail> {
 }
 
 #[test]
-fn more_blocks_than_a_session_has_are_refused(rt: HostRuntime) -> Result<(), Fail> {
-    let paths: [&[u8]; 17] = [
-        b"a", b"b", b"c", b"d", b"e", b"f", b"g", b"h", b"i", b"j", b"k", b"l", b"m", b"n", b"o",
-        b"p", b"q",
-    ];
-    let mut source = paths_of(rt.alloc(), &paths, b"")?;
-    // Each file is 65,536 blocks long.
-    source.size = 1_099_511_627_776;
-    let mut out = MemSink::of(rt.alloc(), Vec::new(rt.alloc()));
-    let words = words_of(rt.alloc(), &["rehearse", "SRC"])?;
-    let depot = no_files(rt.alloc())?;
-    let tooled = tool(rt.alloc(), &words, &mut source, depot, &mut out);
+fn more_blocks_than_a_plan_has_are_refused(rt: HostRuntime) -> Result<(), Fail> {
+    let alloc = rt.alloc();
+    let mut source = paths_of(alloc, &[b"a"], b"")?;
+    source.size = 1_048_577;
+    let depot = MemDepot::of(alloc, Vec::new(alloc), Vec::new(alloc))?;
+    let mut out = MemSink::of(alloc, Vec::new(alloc));
+    let words = words_of(alloc, &["plan", "SRC", "DST", "--block", "1"])?;
+    let tooled = tool(alloc, &words, &mut source, depot, &mut out);
     assert_eq!(rt; tooled.status.code(), 7);
     assert_eq!(rt;
         out.bytes(),
-        b"refused: too many blocks 1114112\n".as_slice()
+        b"refused: too many blocks 1048577\n".as_slice()
     );
     Ok(())
 }

@@ -1,27 +1,32 @@
 //! The top call: it runs the commands that wait for nobody.
-ghost use Rattle.std.specs.Prelude.{◌≡◌, ◌≢◌, ◌↔◌, List, Option, None, [], IfSome, map, string_bytes};
+ghost use Rattle.std.specs.Prelude.{◌≡◌, ◌≢◌, ◌↔◌, ◌≤◌, ◌+◌, ◌∷◌, [], None, Some, IfErr, IfOk, IfSome, IsErrOf, OnOk, map, string_bytes};
 ghost use Rattle.wdt_units.specs.Counts.{Rises, Stands};
-ghost use Rattle.wdt_tree.specs.declared.entry.Entry.{Entry};
 ghost use Rattle.wdt_depot.specs.Moments.{IfTold};
-ghost use Rattle.wdt_depot.specs.State.{Counts};
-ghost use Rattle.wdt_rehearsal.specs.Causes.{IsToldRefused, IsRefusedFor};
+ghost use Rattle.wdt_depot.specs.State.{Counts, OnlyLooks};
+ghost use Rattle.wdt_sender_fsm.specs.declared.answers.RefusedKind.{RefusedKind};
+ghost use Rattle.wdt_rehearsal.specs.Causes.{IsUntouched, RefusesRun};
 ghost use Rattle.wdt_rehearsal.specs.Destination.{Lands};
-ghost use Rattle.wdt_rehearsal.specs.Reports.{IsReportFor};
-ghost use Rattle.wdt_cli.specs.Words.{folder_of};
-ghost use Rattle.wdt_cli.specs.Lines.{Prints, GotMost};
-ghost use Rattle.wdt_cli.specs.Causes.{IsUnrefused, IsDoneOrStarved, IsReportEnd, IsRefusalEnd, LeavesDepot};
+ghost use Rattle.wdt_cli.specs.Causes.{IsFailureEnd, IsTextEnd, IsDoneOrStarved, IsRefusalEnd, IsUnrefused, LeavesDepot};
+ghost use Rattle.wdt_cli.specs.Lines.{Got, GotMost, PrintsLine};
+ghost use Rattle.wdt_cli.specs.Refusals.{grounds_of, IfJudged, IsCauseOf, IsRefusedFor};
+ghost use Rattle.wdt_cli.specs.Texts.{IsTextOf, Prints};
+ghost use Rattle.wdt_cli.specs.Words.{command_of, HasBlock};
 
-use crate::report::{done_text, refusal_line};
+use crate::command::Command;
+use crate::log::log_command;
+use crate::plan::plan_command;
+use crate::rehearsal::rehearse_command;
+use crate::report::refusal_line;
 use crate::status::{Status, Tooled};
-use crate::words::folder_of;
+use crate::words::command_of;
 use std::alloc::Global;
 use wdt_depot::Depot;
-use wdt_rehearsal::{Failure, Report, rehearse};
+use wdt_rehearsal::Failure;
 use wdt_sender_fsm::RefusedKind;
 use wdt_source::Source;
 use wdt_units::Sink;
 
-/// Runs the command that the words are, and hands the depot back.
+/// Runs the command that the words are.
 pub fn tool<S: Source, D: Depot, O: Sink>(
     alloc: Global,
     words: &[String],
@@ -31,103 +36,120 @@ pub fn tool<S: Source, D: Depot, O: Sink>(
 ) -> Tooled<D>
     requires { (D.state depot).spots ≡ [] }
 
-    // Done: each file of the source's tree stands in the depot, as it is read and whatever a crash
-    // leaves; every other path is as it was.
-    ensures landed { result.status ≡ Status.Done → IfSome (S.told source.old) (λ files. Lands files (D.state depot).told (D.state result.depot).told) }
+    // A rehearsal that is done: each file of the source's tree stands in the depot.
+    ensures landed { command_of (map string_bytes words.now) ≡ Some Command.Rehearse → result.status ≡ Status.Done
+        → IfSome (S.told source.old) (λ files. Lands files (D.state depot).told (D.state result.depot).told) }
+    // Every other run leaves each file as it was, at every moment, and so does a rehearsal before its
+    // tree has come whole. `log` leaves the source alone.
+    ensures looks { command_of (map string_bytes words.now) ≢ Some Command.Rehearse → OnlyLooks (D.state depot) (D.state result.depot) }
+    ensures untouched { LeavesDepot result.status (D.state depot) (D.state result.depot) }
+    ensures reads_no_source { command_of (map string_bytes words.now) ≡ Some Command.Log → source.new ≡ source.old }
 
-    // What the sink got: the report behind Done, one last line behind the others.
-    ensures prints { Prints result.status (S.listing source.old) (O.faults out.old) (O.faults out.new) (O.written out.old) (O.written out.new) }
+    // What the sink got: the command's lines behind Done, one last line behind the others.
+    ensures prints { Prints (command_of (map string_bytes words.now)) (S.listing source.old) (D.state depot).told
+        result.status (O.faults out.old) (O.faults out.new) (O.written out.old) (O.written out.new) }
 
     // Each other status has its cause.
-    ensures usage { result.status ≡ Status.Usage ↔ (folder_of (map string_bytes words.now) ≡ None) }
+    ensures usage { result.status ≡ Status.Usage ↔ (command_of (map string_bytes words.now) ≡ None) }
     ensures source_fault { result.status ≡ Status.SourceFault → Rises (S.faults source.old) (S.faults source.new) }
-    ensures disk_fault { Counts (result.status ≡ Status.DiskFault) (D.state depot) (D.state result.depot) }
-    ensures refused { (kind : RefusedKind) → result.status ≡ Status.Refused kind → IsToldRefused (S.listing source.old) kind }
-    // A listing that is refused is refused for just that, unless the source fails or memory runs out.
-    ensures refuses { IfSome (S.listing source.old) (λ entries. (kind : RefusedKind) → IsRefusedFor entries kind
-        → folder_of (map string_bytes words.now) ≢ None → Stands (S.faults source.old) (S.faults source.new) → IsRefusalEnd kind result.status) }
+    ensures disk { Counts (result.status ≡ Status.DiskFault) (D.state depot) (D.state result.depot) }
+    ensures refused { (kind : RefusedKind) → result.status ≡ Status.Refused kind
+        → IfJudged (command_of (map string_bytes words.now)) (S.listing source.old) (D.state depot).told (λ command. λ g. IsRefusedFor command g kind) }
+    // What is refused is refused for just that, unless the source or the depot fails or memory runs out.
+    ensures refuses { IfJudged (command_of (map string_bytes words.now)) (S.listing source.old) (D.state depot).told (λ command. λ g.
+        (kind : RefusedKind) → IsRefusedFor command g kind → Stands (S.faults source.old) (S.faults source.new)
+        → Stands (D.state depot).faults (D.state result.depot).faults → IsRefusalEnd kind result.status) }
     ensures out_fault { result.status ≡ Status.OutFault → Rises (O.faults out.old) (O.faults out.new) }
 
     // Where there is no cause the run is done, or memory ran out.
-    ensures complete { folder_of (map string_bytes words.now) ≢ None
-        → Stands (S.faults source.old) (S.faults source.new)
-        → Stands (D.state depot).faults (D.state result.depot).faults
+    ensures complete { command_of (map string_bytes words.now) ≢ None
+        → Stands (S.faults source.old) (S.faults source.new) → Stands (D.state depot).faults (D.state result.depot).faults
         → Stands (O.faults out.old) (O.faults out.new)
-        → IsUnrefused (S.listing source.old) result.status
+        → IsUnrefused (command_of (map string_bytes words.now)) (S.listing source.old) (D.state depot).told result.status
         → IsDoneOrStarved result.status }
 
-    // The run reads nothing that the tree doesn't have, and asks nothing of the depot that can't be.
+    // The run reads nothing that the tree doesn't have, asks the depot for nothing that can't be, and
+    // leaves no spot entered.
     ensures slips { IfSome (S.told source.old) (λ files. S.slips source.new ≡ S.slips source.old) }
     ensures depot_slips { IfTold (λ t. (D.state result.depot).slips ≡ (D.state depot).slips) (D.state depot).told }
-
-    // Before a tree has come whole, the depot is as it was.
-    ensures untouched { LeavesDepot result.status (D.state depot) (D.state result.depot) }
     ensures spots { (D.state result.depot).spots ≡ [] }
 {
     let mut depot = depot;
-    let status = run(alloc, words, source, &mut depot, out);
-    Tooled { status, depot }
+    let Some(command) = command_of(words) else {
+        let status = close(Status::Usage, b"usage\n", out);
+        return Tooled { status, depot };
+    };
+    match run(alloc, command, source, &mut depot) {
+        Ok(text) => {
+            let status = put(&text, out);
+            Tooled { status, depot }
+        }
+        Err(failure) => {
+            let status = fail(alloc, failure, out);
+            Tooled { status, depot }
+        }
+    }
 }
 
-// Runs the command that the words are.
-fn run<S: Source, D: Depot, O: Sink>(
+// The lines of a command that is done.
+fn run<S: Source, D: Depot>(
     alloc: Global,
-    words: &[String],
+    command: Command,
     source: &mut S,
     depot: &mut D,
-    out: &mut O,
-) -> Status
-    requires { (D.state depot.old).spots ≡ [] }
-    ensures landed { result ≡ Status.Done → IfSome (S.told source.old) (λ files. Lands files (D.state depot.old).told (D.state depot.new).told) }
-    ensures prints { Prints result (S.listing source.old) (O.faults out.old) (O.faults out.new) (O.written out.old) (O.written out.new) }
-    ensures usage { result ≡ Status.Usage ↔ (folder_of (map string_bytes words.now) ≡ None) }
-    ensures source_fault { result ≡ Status.SourceFault → Rises (S.faults source.old) (S.faults source.new) }
-    ensures disk_fault { Counts (result ≡ Status.DiskFault) (D.state depot.old) (D.state depot.new) }
-    ensures refused { (kind : RefusedKind) → result ≡ Status.Refused kind → IsToldRefused (S.listing source.old) kind }
-    ensures refuses { IfSome (S.listing source.old) (λ entries. (kind : RefusedKind) → IsRefusedFor entries kind
-        → folder_of (map string_bytes words.now) ≢ None → Stands (S.faults source.old) (S.faults source.new) → IsRefusalEnd kind result) }
-    ensures out_fault { result ≡ Status.OutFault → Rises (O.faults out.old) (O.faults out.new) }
-    ensures complete { folder_of (map string_bytes words.now) ≢ None
-        → Stands (S.faults source.old) (S.faults source.new)
-        → Stands (D.state depot.old).faults (D.state depot.new).faults
-        → Stands (O.faults out.old) (O.faults out.new)
-        → IsUnrefused (S.listing source.old) result
-        → IsDoneOrStarved result }
+) -> Result<Vec<u8>, Failure>
+    requires block { HasBlock command }
+    requires spots { (D.state depot.old).spots ≡ [] }
+    ensures landed { command ≡ Command.Rehearse → OnOk result (IfSome (S.told source.old) (λ files. Lands files (D.state depot.old).told (D.state depot.new).told)) }
+    ensures looks { command ≢ Command.Rehearse → OnlyLooks (D.state depot.old) (D.state depot.new) }
+    ensures untouched { IfErr result (IsUntouched (D.state depot.old) (D.state depot.new)) }
+    ensures reads_no_source { command ≡ Command.Log → source.new ≡ source.old }
+    ensures text { IfOk result (λ text. IsTextOf command (S.listing source.old) (D.state depot.old).told text.items) }
+    ensures later { S.faults source.old ≤ S.faults source.new }
+    ensures cause { IsErrOf result Failure.Source → Rises (S.faults source.old) (S.faults source.new) }
+    ensures counts { Counts (IsErrOf result Failure.Disk) (D.state depot.old) (D.state depot.new) }
+    ensures refused { IfErr result (IsCauseOf (grounds_of command (S.listing source.old) (D.state depot.old).told) (IsRefusedFor command)) }
+    ensures refuses { IfSome (grounds_of command (S.listing source.old) (D.state depot.old).told) (λ g. (kind : RefusedKind) → IsRefusedFor command g kind
+        → Stands (S.faults source.old) (S.faults source.new) → Stands (D.state depot.old).faults (D.state depot.new).faults → RefusesRun result kind) }
     ensures slips { IfSome (S.told source.old) (λ files. S.slips source.new ≡ S.slips source.old) }
     ensures depot_slips { IfTold (λ t. (D.state depot.new).slips ≡ (D.state depot.old).slips) (D.state depot.old).told }
-    ensures untouched { LeavesDepot result (D.state depot.old) (D.state depot.new) }
     ensures spots { (D.state depot.new).spots ≡ [] }
 {
-    if folder_of(words).is_none() {
-        return close(Status::Usage, b"usage\n", out);
-    }
-    match rehearse(alloc, source, depot) {
-        Ok(rehearsed) => report(alloc, &rehearsed.report, out),
-        Err(Failure::Source) => close(Status::SourceFault, b"source fault\n", out),
-        Err(Failure::Disk) => close(Status::DiskFault, b"disk fault\n", out),
-        Err(Failure::Refused(kind)) => refuse(alloc, kind, out),
-        Err(Failure::NoMemory) => Status::NoMemory,
+    match command {
+        Command::Rehearse => rehearse_command(alloc, source, depot),
+        Command::Plan { block } => plan_command(alloc, source, depot, block),
+        Command::Log => log_command(alloc, depot),
     }
 }
 
-// Puts a report.
-fn report<O: Sink>(alloc: Global, report: &Report, out: &mut O) -> Status
-    ensures prints { (listing : Option (List Entry)) → IsReportFor listing report.now → Prints result listing (O.faults out.old) (O.faults out.new) (O.written out.old) (O.written out.new) }
-    ensures cause { IsReportEnd result (O.faults out.old) (O.faults out.new) }
+// Puts the lines of a command that is done.
+fn put<O: Sink>(text: &[u8], out: &mut O) -> Status
+    ensures end { IsTextEnd result (O.faults out.old) (O.faults out.new) }
+    ensures got { result ≡ Status.Done → Got text.now (O.written out.old) (O.written out.new) }
 {
-    let Ok(text) = done_text(alloc, report) else {
-        return Status::NoMemory;
-    };
-    match out.put(text.as_bytes()) {
+    match out.put(text) {
         Ok(()) => Status::Done,
         Err(_) => Status::OutFault,
     }
 }
 
+// Ends with the status and the line of a failure.
+fn fail<O: Sink>(alloc: Global, failure: Failure, out: &mut O) -> Status
+    ensures end { IsFailureEnd failure result }
+    ensures line { PrintsLine result (O.faults out.old) (O.faults out.new) (O.written out.old) (O.written out.new) }
+{
+    match failure {
+        Failure::Source => close(Status::SourceFault, b"source fault\n", out),
+        Failure::Disk => close(Status::DiskFault, b"disk fault\n", out),
+        Failure::Refused(kind) => refuse(alloc, kind, out),
+        Failure::NoMemory => Status::NoMemory,
+    }
+}
+
 // Ends with a refusal and its line.
 fn refuse<O: Sink>(alloc: Global, kind: RefusedKind, out: &mut O) -> Status
-    ensures status { IsRefusalEnd kind result }
-    ensures prints { (listing : Option (List Entry)) → Prints result listing (O.faults out.old) (O.faults out.new) (O.written out.old) (O.written out.new) }
+    ensures end { IsRefusalEnd kind result }
+    ensures line { PrintsLine result (O.faults out.old) (O.faults out.new) (O.written out.old) (O.written out.new) }
 {
     match refusal_line(alloc, &kind) {
         Ok(line) => close(Status::Refused(kind), &line, out),

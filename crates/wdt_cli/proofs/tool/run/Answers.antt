@@ -1,7 +1,30 @@
-use Rattle.wdt_cli.proofs.Complete.{refusal-complete}
+use Rattle.std.proofs.Common.{sym, subst}
+use Rattle.std.specs.Prelude.{IfSome}
+use Rattle.wdt_units.specs.Counts.{Stands}
+use Rattle.wdt_sender_fsm.specs.declared.answers.RefusedKind.{RefusedKind}
+use Rattle.wdt_cli.specs.declared.command.Command.{Command}
+use Rattle.wdt_cli.specs.Refusals.{grounds_of, IsRefusedFor}
+use Rattle.wdt_rehearsal.specs.Causes.{RefusesRun}
+use Rattle.wdt_cli.proofs.Refused.{plan-refuses}
+use Rattle.wdt_cli.proofs.Untouched.{looked-untouched}
 use Rattle.wdt_cli.proofs.tool.run.Goals as goal
 
-pub returns-in-Err-Refused-clause-complete : goal.returns-in-Err-Refused-clause-complete
-returns-in-Err-Refused-clause-complete g c =
-    λ form source disk out free.
-    refusal-complete (g.S.Source.listing c.args.source.now) c.in-Err-Refused.kind c.refuse.result c.refuse.ensures.status (rw c.in-Err-Refused.field-0-is at c.in-Err-Refused.ensures.cause) free
+pub returns-in-Plan-clause-refuses : goal.returns-in-Plan-clause-refuses
+returns-in-Plan-clause-refuses g c =
+    let listing = g.S.Source.listing c.args.source.now in
+    let told = (g.D.Depot.state c.args.depot.now).told in
+    let before = g.S.Source.faults c.args.source.now in
+    let after = g.S.Source.faults c.plan_command.new.source in
+    let before2 = (g.D.Depot.state c.args.depot.now).faults in
+    let after2 = (g.D.Depot.state c.plan_command.new.depot).faults in
+    let result = c.plan_command.result in
+    subst (λ (command : Command). IfSome (grounds_of command listing told) (λ grounds. (kind : RefusedKind) → IsRefusedFor command grounds kind → Stands before after → Stands before2 after2 → RefusesRun result kind)) (sym c.in-Plan.is)
+    (plan-refuses c.in-Plan.block listing told before after before2 after2 result c.plan_command.ensures.plan c.plan_command.ensures.refused c.plan_command.ensures.cause c.plan_command.ensures.counts.rose)
+
+pub returns-in-Plan-clause-untouched : goal.returns-in-Plan-clause-untouched
+returns-in-Plan-clause-untouched g c =
+    looked-untouched _ c.plan_command.result (g.D.Depot.state c.args.depot.now) (g.D.Depot.state c.plan_command.new.depot) c.plan_command.ensures.looks c.requires.spots c.plan_command.ensures.spots c.plan_command.ensures.counts c.plan_command.ensures.depot_slips
+
+pub returns-in-Log-clause-untouched : goal.returns-in-Log-clause-untouched
+returns-in-Log-clause-untouched g c =
+    looked-untouched _ c.log_command.result (g.D.Depot.state c.args.depot.now) (g.D.Depot.state c.log_command.new.depot) c.log_command.ensures.looks c.requires.spots c.log_command.ensures.spots c.log_command.ensures.counts c.log_command.ensures.slips

@@ -1,0 +1,88 @@
+//! What went wrong, in a line for a person.
+use crate::help::USAGE;
+use crate::status::Status;
+use std::alloc::Global;
+use std::io;
+use std::rt::Files;
+use wdt_folder::{Fault, FolderSource, OneLine};
+use wdt_sender_fsm::RefusedKind;
+
+/// Writes one line on standard error for what went wrong; the usage for a wrong word.
+pub fn explain<R: Files + AllocGlobal + Clone + Drop>(
+    rt: &impl Eprint,
+    alloc: Global,
+    status: &Status,
+    source: &FolderSource<R>,
+    disk: Option<&Fault>,
+    out: Option<&io::Error>,
+) -> io::Result<()> {
+    match status {
+        Status::Done => Ok(()),
+        Status::Usage => eprint!(rt; "{}", USAGE),
+        Status::SourceFault => explain_fault(rt, source.fault()),
+        Status::DiskFault => explain_fault(rt, disk),
+        Status::Refused(kind) => explain_refusal(rt, alloc, kind, source),
+        Status::OutFault => match out {
+            Some(reason) => eprintln!(rt; "wdt: writing standard output: {reason}"),
+            None => Ok(()),
+        },
+        Status::NoMemory => eprintln!(rt; "wdt: out of memory"),
+    }
+}
+
+fn explain_fault(rt: &impl Eprint, fault: Option<&Fault>) -> io::Result<()> {
+    match fault {
+        Some(fault) => eprintln!(rt; "wdt: {fault}"),
+        None => Ok(()),
+    }
+}
+
+// Says what is refused and, where a person can do something, what.
+fn explain_refusal<R: Files + AllocGlobal + Clone + Drop>(
+    rt: &impl Eprint,
+    alloc: Global,
+    kind: &RefusedKind,
+    source: &FolderSource<R>,
+) -> io::Result<()> {
+    let (at, why) = match kind {
+        RefusedKind::BadPath { at } => (
+            *at,
+            "the path is longer than 1,024 bytes or otherwise not lawful",
+        ),
+        RefusedKind::Reserved { at } => (*at, "the path is one of the receiver's own files"),
+        RefusedKind::Twice { at } => (*at, "the path is listed twice"),
+        RefusedKind::TooLarge { at } => (
+            *at,
+            "the file has more than 2^40 bytes, or those up to it have more than 2^50",
+        ),
+        RefusedKind::TooMany { count } => {
+            return eprintln!(rt; "wdt: {count} files, more than 262144");
+        }
+        RefusedKind::TooManyBlocks { count } => {
+            return eprintln!(rt;
+                "wdt: {count} blocks, more than 1048576: take larger blocks, or fewer files at once"
+            );
+        }
+        RefusedKind::Stale { path, .. } => {
+            let path = OneLine(path.text());
+            return eprintln!(rt;
+                "wdt: the destination's log has another size or time for {path}, or the source has no such file: to begin anew, remove the destination's .wlog"
+            );
+        }
+        RefusedKind::BadScript { line } => {
+            return eprintln!(rt; "wdt: line {line} of the script has no meaning");
+        }
+        RefusedKind::BadLog { at } => {
+            return eprintln!(rt;
+                "wdt: the destination's log has no meaning from byte {at} on: to begin anew, remove the destination's .wlog"
+            );
+        }
+    };
+    match source.path_at(alloc, at) {
+        Some(path) => {
+            let path = OneLine(path.as_str());
+            eprintln!(rt; "wdt: refusing {path}: {why}")
+        }
+        None => eprintln!(rt; "wdt: refusing the file at place {at}: {why}"),
+    }
+}

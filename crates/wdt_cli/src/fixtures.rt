@@ -1,0 +1,112 @@
+//! What the tests run on.
+ghost use Rattle.std.specs.Prelude.{None};
+
+use crate::tool::tool;
+use std::alloc::Global;
+use std::process::Abort;
+use std::test::Fail;
+use wdt_depot::MemDepot;
+use wdt_source::{MemSource, Source, SourceFail};
+use wdt_tree::{Plain, RawEntry};
+use wdt_units::{MemSink, Name};
+
+/// The log of the file `a` of two bytes, all of it covered.
+pub const LOG: &[u8] = b"WDTL\0\x01\x01\0\0\0\x29\
+    F\0\0\0\0\0\x01a\0\0\0\0\0\0\0\x02\0\0\0\0\0\0\0\0\
+    M\0\0\0\0\0\0\0\0\0\0\0\0\0\0\0\x02\0";
+
+pub fn words_of(alloc: Global, texts: &[&str]) -> Result<Vec<String>, Fail> {
+    let mut words = Vec::new(alloc);
+    for text in texts {
+        words.push(String::from_str(alloc, text)?)?;
+    }
+    Ok(words)
+}
+
+fn plains(alloc: Global, files: &[(&str, &[u8])]) -> Result<Vec<Plain>, Fail> {
+    let mut plains = Vec::new(alloc);
+    for (path, bytes) in files {
+        plains.push(Plain {
+            path: Name::read(alloc, path.as_bytes())?,
+            stamp: 0,
+            bytes: Vec::from_slice(alloc, bytes)?,
+        })?;
+    }
+    Ok(plains)
+}
+
+/// The status and the lines of these words, where the source has these files and the depot those.
+pub fn run(
+    rt: &impl Abort,
+    alloc: Global,
+    words: &[&str],
+    files: &[(&str, &[u8])],
+    stored: &[(&str, &[u8])],
+) -> Result<(u8, Vec<u8>), Fail> {
+    let files = plains(alloc, files)?;
+    assert!(rt; files.len() < 4_294_967_296);
+    let mut source = MemSource::of(files, Vec::new(alloc));
+    let depot = MemDepot::of(alloc, plains(alloc, stored)?, Vec::new(alloc))?;
+    let mut out = MemSink::of(alloc, Vec::new(alloc));
+    let words = words_of(alloc, words)?;
+    let tooled = tool(alloc, &words, &mut source, depot, &mut out);
+    Ok((tooled.status.code(), Vec::from_slice(alloc, out.bytes())?))
+}
+
+/// A source that lists paths of any kind, each of a file with the same size and bytes, and tells
+/// nothing.
+#[derive(Drop)]
+pub struct Paths {
+    pub paths: Vec<Vec<u8>>,
+    pub size: u64,
+    pub bytes: Vec<u8>,
+}
+
+impl Source for Paths {
+    ghost told = { λ _. None };
+
+    ghost listing = { λ _. None };
+
+    ghost faults = { λ _. 18446744073709551615 };
+
+    ghost slips = { λ _. 0 };
+
+    fn list(&mut self, alloc: Global) -> Result<Vec<RawEntry>, SourceFail> {
+        let mut raw = Vec::new(alloc);
+        for path in &self.paths {
+            raw.push(RawEntry {
+                path: Vec::from_slice(alloc, path)?,
+                size: self.size,
+                stamp: 0,
+            })?;
+        }
+        if raw.len() < 4_294_967_296 {
+            return Ok(raw);
+        }
+        Err(SourceFail::Failed)
+    }
+
+    fn read_exact_at(&mut self, _: &Name, _: u64, into: &mut [u8]) -> Result<(), SourceFail> {
+        if into.len() != self.bytes.len() {
+            return Err(SourceFail::Failed);
+        }
+        into.copy_from_slice(&self.bytes);
+        Ok(())
+    }
+
+    ghost told_is_tree = { λ _. tt };
+
+    ghost told_is_listed = { λ _. tt };
+}
+
+pub fn paths_of(alloc: Global, paths: &[&[u8]], bytes: &[u8]) -> Result<Paths, Fail> {
+    let mut source = Paths {
+        paths: Vec::new(alloc),
+        size: bytes.len() as u64,
+        bytes: Vec::from_slice(alloc, bytes)?,
+    };
+    for path in paths {
+        source.paths.push(Vec::from_slice(alloc, path)?)?;
+    }
+    Ok(source)
+}
