@@ -23,30 +23,34 @@ pub fn words_of(alloc: Global, texts: &[&str]) -> Result<Vec<String>, Fail> {
     Ok(words)
 }
 
-fn plains(alloc: Global, files: &[(&str, &[u8])]) -> Result<Vec<Plain>, Fail> {
-    let mut plains = Vec::new(alloc);
-    for (path, bytes) in files {
-        plains.push(Plain {
-            path: Name::read(alloc, path.as_bytes())?,
-            stamp: 0,
-            bytes: Vec::from_slice(alloc, bytes)?,
-        })?;
-    }
-    Ok(plains)
+fn plain(alloc: Global, path: &str, bytes: &[u8]) -> Result<Plain, Fail> {
+    Ok(Plain {
+        path: Name::read(alloc, path.as_bytes())?,
+        stamp: 0,
+        bytes: Vec::from_slice(alloc, bytes)?,
+    })
 }
 
-/// The status and the lines of these words, where the source has these files and the depot those.
+/// The status and the lines of these words, where the source has these files, and the depot a log of
+/// these bytes, or nothing where there are none.
 pub fn run(
     rt: &impl Abort,
     alloc: Global,
     words: &[&str],
     files: &[(&str, &[u8])],
-    stored: &[(&str, &[u8])],
+    log: &[u8],
 ) -> Result<(u8, Vec<u8>), Fail> {
-    let files = plains(alloc, files)?;
-    assert!(rt; files.len() < 4_294_967_296);
-    let mut source = MemSource::of(files, Vec::new(alloc));
-    let depot = MemDepot::of(alloc, plains(alloc, stored)?, Vec::new(alloc))?;
+    let mut listed = Vec::new(alloc);
+    for (path, bytes) in files {
+        listed.push(plain(alloc, path, bytes)?)?;
+    }
+    let mut stored = Vec::new(alloc);
+    if !log.is_empty() {
+        stored.push(plain(alloc, ".wlog", log)?)?;
+    }
+    assert!(rt; listed.len() < 4_294_967_296);
+    let mut source = MemSource::of(listed, Vec::new(alloc));
+    let depot = MemDepot::of(alloc, stored, Vec::new(alloc))?;
     let mut out = MemSink::of(alloc, Vec::new(alloc));
     let words = words_of(alloc, words)?;
     let tooled = tool(alloc, &words, &mut source, depot, &mut out);

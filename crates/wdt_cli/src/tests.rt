@@ -23,7 +23,7 @@ fn trees_are_copied_and_reported(rt: HostRuntime) -> Result<(), Fail> {
         ),
     ];
     for (files, text) in trees {
-        let (status, lines) = run(&rt, rt.alloc(), &["rehearse", "SRC"], files, &[])?;
+        let (status, lines) = run(&rt, rt.alloc(), &["rehearse", "SRC"], files, b"")?;
         assert_eq!(rt; status, 0);
         assert_eq!(rt; lines.as_slice(), text);
     }
@@ -32,48 +32,36 @@ fn trees_are_copied_and_reported(rt: HostRuntime) -> Result<(), Fail> {
 
 #[test]
 fn plans_list_what_is_lacking(rt: HostRuntime) -> Result<(), Fail> {
-    let plans: [(&[&str], &[(&str, &[u8])], &[(&str, &[u8])], u8, &[u8]); 5] = [
-        (
-            &["plan", "SRC", "DST", "--block", "4"],
-            &[("a", b"0123"), ("b", b"01234")],
-            &[],
-            0,
-            b"0 4 a\n0 4 b\n4 1 b\nblocks 3\nbytes 9\nok\n",
-        ),
+    let words = ["plan", "SRC", "DST", "--block", "4"];
+    let (status, lines) = run(
+        &rt,
+        rt.alloc(),
+        &words,
+        &[("a", b"0123"), ("b", b"01234")],
+        b"",
+    )?;
+    assert_eq!(rt; status, 0);
+    assert_eq!(rt;
+        lines.as_slice(),
+        b"0 4 a\n0 4 b\n4 1 b\nblocks 3\nbytes 9\nok\n".as_slice()
+    );
+    let plans: [(&str, &[u8], &[u8], u8, &[u8]); 4] = [
         // Nothing of the file is lacking by the log.
-        (
-            &["plan", "SRC", "DST"],
-            &[("a", b"hi")],
-            &[(".wlog", LOG)],
-            0,
-            b"blocks 0\nbytes 0\nok\n",
-        ),
+        ("a", b"hi", LOG, 0, b"blocks 0\nbytes 0\nok\n"),
         // The log has another size.
-        (
-            &["plan", "SRC", "DST"],
-            &[("a", b"hi!")],
-            &[(".wlog", LOG)],
-            7,
-            b"refused: stale a\n",
-        ),
-        (
-            &["plan", "SRC", "DST"],
-            &[("a", b"hi")],
-            &[(".wlog", b"WDTL\0\x01\x01")],
-            7,
-            b"refused: bad log 7\n",
-        ),
+        ("a", b"hi!", LOG, 7, b"refused: stale a\n"),
+        ("a", b"hi", b"WDTL\0\x01\x01", 7, b"refused: bad log 7\n"),
         // A path is printed on one line.
         (
-            &["plan", "SRC", "DST"],
-            &[("a\\b\nc", b"hi")],
-            &[],
+            "a\\b\nc",
+            b"hi",
+            b"",
             0,
             b"0 2 a\\\\b\\nc\nblocks 1\nbytes 2\nok\n",
         ),
     ];
-    for (words, files, stored, status, text) in plans {
-        let (ended, lines) = run(&rt, rt.alloc(), words, files, stored)?;
+    for (path, bytes, log, status, text) in plans {
+        let (ended, lines) = run(&rt, rt.alloc(), &words, &[(path, bytes)], log)?;
         assert_eq!(rt; ended, status);
         assert_eq!(rt; lines.as_slice(), text);
     }
@@ -82,20 +70,16 @@ fn plans_list_what_is_lacking(rt: HostRuntime) -> Result<(), Fail> {
 
 #[test]
 fn logs_are_shown(rt: HostRuntime) -> Result<(), Fail> {
-    let logs: [(&[(&str, &[u8])], u8, &[u8]); 5] = [
-        (
-            &[(".wlog", LOG)],
-            0,
-            b"file 0 2 0 a\nrange 0 2\nend 52\nok\n",
-        ),
-        (&[], 0, b"no log\nok\n"),
+    let logs: [(&[u8], u8, &[u8]); 5] = [
+        (LOG, 0, b"file 0 2 0 a\nrange 0 2\nend 52\nok\n"),
+        (b"", 0, b"no log\nok\n"),
         // A gate that isn't open ends the log.
-        (&[(".wlog", b"WDTL\0\x01\x07")], 0, b"end 6\nok\n"),
-        (&[(".wlog", b"WDTL\0\x02\x07")], 7, b"refused: bad log 0\n"),
-        (&[(".wlog", b"WDTL\0\x01\x01")], 7, b"refused: bad log 7\n"),
+        (b"WDTL\0\x01\x07", 0, b"end 6\nok\n"),
+        (b"WDTL\0\x02\x07", 7, b"refused: bad log 0\n"),
+        (b"WDTL\0\x01\x01", 7, b"refused: bad log 7\n"),
     ];
-    for (stored, status, text) in logs {
-        let (ended, lines) = run(&rt, rt.alloc(), &["log", "DST"], &[], stored)?;
+    for (log, status, text) in logs {
+        let (ended, lines) = run(&rt, rt.alloc(), &["log", "DST"], &[], log)?;
         assert_eq!(rt; ended, status);
         assert_eq!(rt; lines.as_slice(), text);
     }
@@ -122,7 +106,7 @@ fn other_words_are_usage(rt: HostRuntime) -> Result<(), Fail> {
         &["log", "a", "b"],
     ];
     for words in forms {
-        let (status, lines) = run(&rt, rt.alloc(), words, &[], &[])?;
+        let (status, lines) = run(&rt, rt.alloc(), words, &[], b"")?;
         assert_eq!(rt; status, 1);
         assert_eq!(rt; lines.as_slice(), b"usage\n".as_slice());
     }
@@ -131,7 +115,7 @@ fn other_words_are_usage(rt: HostRuntime) -> Result<(), Fail> {
         rt.alloc(),
         &["plan", "a", "b", "--block", "67108864"],
         &[],
-        &[],
+        b"",
     )?;
     assert_eq!(rt; status, 0);
     Ok(())
