@@ -3,6 +3,7 @@ ghost use Rattle.std.specs.Prelude.{◌≡◌, ◌≤◌, [], None, IfErr, IfOk,
 ghost use Rattle.wdt_units.specs.Counts.{Rises};
 ghost use Rattle.wdt_ranges.specs.Files.{is_in_order};
 ghost use Rattle.wdt_depot.specs.State.{Counts, OnlyLooks};
+ghost use Rattle.wdt_tree.specs.Rest.{IsRest};
 ghost use Rattle.wdt_rest.specs.RestOf.{rest_of};
 ghost use Rattle.wdt_discover.specs.Plan.{refusal};
 ghost use Rattle.wdt_cli.specs.PlanLines.{plan_text};
@@ -56,6 +57,7 @@ fn planned(alloc: Global, manifest: &Manifest, have: &Have, block: u32) -> Resul
     requires order { IsTrue (is_in_order have.now) }
     requires block { 1 ≤ block }
     ensures lines { IfOk result (λ text. text.items ≡ plan_text manifest.now (rest_of manifest.now have.now block)) }
+    ensures rest { OnOk result (IsRest manifest.now have.now block (rest_of manifest.now have.now block)) }
     ensures accepted { OnOk result (refusal manifest.now have.now block ≡ None) }
     ensures refused { IfErr result (IsPlanningCause manifest.now have.now block) }
 {
