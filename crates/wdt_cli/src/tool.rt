@@ -39,6 +39,9 @@ pub fn tool<S: Source, D: Depot, O: Sink>(
     // A rehearsal that is done: each file of the source's tree stands in the depot.
     ensures landed { command_of (map string_bytes words.now) ≡ Some Command.Rehearse → result.status ≡ Status.Done
         → IfSome (S.told source.old) (λ files. Lands files (D.state depot).told (D.state result.depot).told) }
+    // So it does where only the lines couldn't be written.
+    ensures unwritten { command_of (map string_bytes words.now) ≡ Some Command.Rehearse → result.status ≡ Status.OutFault
+        → IfSome (S.told source.old) (λ files. Lands files (D.state depot).told (D.state result.depot).told) }
     // Every other run leaves each file as it was, at every moment, and so does a rehearsal before its
     // tree has come whole. `log` leaves the source alone.
     ensures looks { command_of (map string_bytes words.now) ≢ Some Command.Rehearse → OnlyLooks (D.state depot) (D.state result.depot) }
