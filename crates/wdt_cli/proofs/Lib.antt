@@ -1,5 +1,5 @@
 pub mod Found
+pub mod Got
 pub mod Numbered
 pub mod Refused
-pub mod Spelled
 pub mod Untouched

@@ -7,7 +7,7 @@ use Rattle.wdt_tree.specs.declared.entry.Entry.{Entry}
 use Rattle.wdt_tree.specs.declared.manifest.ManifestFail.{ManifestFail}
 use Rattle.wdt_tree.specs.declared.manifest.ManifestFail.TheVariants as fail
 use Rattle.wdt_tree.specs.Listing.{IsAccepted, IsRefused, Orders, Refuses}
-use Rattle.wdt_tree.proofs.Refusals.{accepts, refuses}
+use Rattle.wdt_tree.proofs.Shared.{accepts, refuses}
 use Rattle.wdt_depot.specs.Moments.{Told}
 use Rattle.wdt_logfmt.specs.View.{Meaning, have_of}
 use Rattle.wdt_discover.specs.Plan.{refusal}
@@ -16,10 +16,11 @@ use Rattle.wdt_sender_fsm.specs.declared.answers.RefusedKind.{RefusedKind}
 use Rattle.wdt_sender_fsm.specs.declared.answers.RefusedKind.TheVariants.{BadScript, BadPath, Reserved, Twice, TooMany, TooLarge, TooManyBlocks, Stale, BadLog}
 use Rattle.wdt_rehearsal.specs.declared.rehearsal.Failure.{Failure}
 use Rattle.wdt_rehearsal.specs.declared.rehearsal.Failure.TheVariants as failure
-use Rattle.wdt_cli.specs.declared.command.Command.TheVariants.{Plan}
+use Rattle.wdt_words.specs.declared.command.Command.TheVariants.{Plan}
 use Rattle.wdt_cli.specs.Plans.{IsPlan}
 use Rattle.wdt_cli.specs.Refusals.{Grounds, grounds_of, plan_refusal, unplanned_kind, with_log, IsCauseOf, IsListingRefused, IsLogRefused, IsPlanRefused, IsUnplanned}
-use Rattle.wdt_rehearsal.specs.Causes.{RefusesRun}
+use Rattle.wdt_rehearsal.specs.Causes.{RefusesRun, IsRefusedFor as IsRehearsalRefused}
+use Rattle.wdt_cli.specs.Listings.{IsListingCause}
 
 -- ---- listings
 
@@ -149,3 +150,61 @@ plan-refuses block (Some listing) (Some t) before after before2 after2 (Err fail
 plan-refuses block (Some listing) (Some t) before after before2 after2 (Err (failure.Refused other)) plan cause source disk =
     λ kind refused stood stood2. one-plan block (with_log listing t) other kind cause refused
 plan-refuses block (Some listing) (Some t) before after before2 after2 (Err failure.NoMemory) plan cause source disk = λ kind refused stood stood2. tt
+
+-- ---- a listing is refused before anything else is asked
+
+-- a listing that is accepted is refused for nothing
+pub listing-accepted : (A : Type 0) (listing : Option (List Entry)) (before after : ℕ) (result : Result A Failure) → IfSome listing IsAccepted
+    → IfSome listing (λ entries. (kind : RefusedKind) → IsListingRefused entries kind → Stands before after → RefusesRun result kind)
+listing-accepted A None before after result accepted = tt
+listing-accepted A (Some entries) before after result accepted = λ kind refused stood. absurd (not-listing entries kind accepted refused)
+
+-- a listing that isn't taken is refused for just what it is refused for, unless the source fails or memory runs out
+pub listing-failed : (A : Type 0) (listing : Option (List Entry)) (before after : ℕ) (f : Failure) → IsListingCause listing f → (IsErrOf {T = A} (Err f) failure.Source → Rises before after)
+    → IfSome listing (λ entries. (kind : RefusedKind) → IsListingRefused entries kind → Stands before after → RefusesRun {A = A} (Err f) kind)
+listing-failed A None before after f cause source = tt
+listing-failed A (Some entries) before after failure.Source cause source = λ kind refused stood. absurd (not-both before after (source refl) stood)
+listing-failed A (Some entries) before after failure.Disk cause source = absurd cause
+listing-failed A (Some entries) before after (failure.Refused other) cause source = λ kind refused stood. one-listing entries other kind cause refused
+listing-failed A (Some entries) before after failure.NoMemory cause source = λ kind refused stood. tt
+
+-- a rehearsal refuses what a listing is refused for
+rehearsal-kind : (entries : List Entry) (kind : RefusedKind) → IsListingRefused entries kind → IsRehearsalRefused entries kind
+rehearsal-kind entries (BadPath at) h = h
+rehearsal-kind entries (Reserved at) h = h
+rehearsal-kind entries (Twice at) h = h
+rehearsal-kind entries (TooMany count) h = h
+rehearsal-kind entries (TooLarge at) h = h
+rehearsal-kind entries (TooManyBlocks count) h = absurd h
+rehearsal-kind entries (Stale path logged found) h = absurd h
+rehearsal-kind entries (BadScript line) h = absurd h
+rehearsal-kind entries (BadLog at) h = absurd h
+
+-- a failure refuses the same, whatever would have been answered
+refuses-any : (A B : Type 0) (f : Failure) (kind : RefusedKind) → RefusesRun {A = A} (Err f) kind → RefusesRun {A = B} (Err f) kind
+refuses-any A B failure.Source kind h = h
+refuses-any A B failure.Disk kind h = h
+refuses-any A B (failure.Refused other) kind h = h
+refuses-any A B failure.NoMemory kind h = h
+
+-- said of each refusal of a rehearsal's listing, where it is told
+abbrev pub RefusesRehearsal : {A : Type 0} → Option (List Entry) → ℕ → ℕ → Result A Failure → Type 0
+RefusesRehearsal listing before after result = IfSome listing (λ entries. (kind : RefusedKind) → IsRehearsalRefused entries kind → Stands before after → RefusesRun result kind)
+
+-- a rehearsal that is done had a listing that is refused for nothing
+pub rehearsed-fine : (A : Type 0) (listing : Option (List Entry)) (before after : ℕ) (r : Result A Failure) (x : A) → RefusesRehearsal listing before after r → r ≡ Ok x
+    → IfSome listing (λ entries. (kind : RefusedKind) → IsListingRefused entries kind → Stands before after → ⊥)
+rehearsed-fine A listing before after r x h is = go listing (subst (λ (q : Result A Failure). RefusesRehearsal listing before after q) is h)
+  where
+    go : (told : Option (List Entry)) → RefusesRehearsal {A = A} told before after (Ok x) → IfSome told (λ entries. (kind : RefusedKind) → IsListingRefused entries kind → Stands before after → ⊥)
+    go None k = tt
+    go (Some entries) k = λ kind refused stood. k kind (rehearsal-kind entries kind refused) stood
+
+-- and one that failed was refused for just what its listing is refused for
+pub rehearsed-failed : (A B : Type 0) (listing : Option (List Entry)) (before after : ℕ) (r : Result A Failure) (f : Failure) → RefusesRehearsal listing before after r → r ≡ Err f
+    → IfSome listing (λ entries. (kind : RefusedKind) → IsListingRefused entries kind → Stands before after → RefusesRun {A = B} (Err f) kind)
+rehearsed-failed A B listing before after r f h is = go listing (subst (λ (q : Result A Failure). RefusesRehearsal listing before after q) is h)
+  where
+    go : (told : Option (List Entry)) → RefusesRehearsal {A = A} told before after (Err f) → IfSome told (λ entries. (kind : RefusedKind) → IsListingRefused entries kind → Stands before after → RefusesRun {A = B} (Err f) kind)
+    go None k = tt
+    go (Some entries) k = λ kind refused stood. refuses-any A B f kind (k kind (rehearsal-kind entries kind refused) stood)

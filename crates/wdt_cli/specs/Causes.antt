@@ -5,13 +5,14 @@ use Rattle.wdt_tree.specs.declared.entry.Entry.{Entry}
 use Rattle.wdt_depot.specs.Moments.{Told}
 use Rattle.wdt_depot.specs.State.{State}
 use Rattle.wdt_sender_fsm.specs.declared.answers.RefusedKind.{RefusedKind}
-use Rattle.wdt_cli.specs.declared.command.Command.{Command}
+use Rattle.wdt_words.specs.declared.command.Command.{Command}
 use Rattle.wdt_rehearsal.specs.declared.rehearsal.Failure.{Failure}
 use Rattle.wdt_rehearsal.specs.declared.rehearsal.Failure.TheVariants as failure
 use Rattle.wdt_cli.specs.declared.status.Status.{Status}
 use Rattle.wdt_cli.specs.declared.status.Status.TheVariants.{Done, Usage, SourceFault, DiskFault, Refused, OutFault, NoMemory}
 use Rattle.wdt_cli.specs.Refusals.{Grounds, grounds_of, IsRefusedFor}
 
+-- no refusal was answered
 abbrev pub IsNoRefusal : Status → Type 0
 IsNoRefusal (Refused kind) = ⊥
 IsNoRefusal other = Unit {0}
@@ -37,6 +38,7 @@ IsDoneOrStarved other = ⊥
 abbrev pub IsTextEnd : Status → ℕ → ℕ → Type 0
 IsTextEnd Done before after = Unit {0}
 IsTextEnd OutFault before after = Rises before after
+IsTextEnd NoMemory before after = Unit {0}
 IsTextEnd other before after = ⊥
 
 -- how the printing of a refusal ends

@@ -2,11 +2,9 @@ pub mod Causes
 pub mod Lines
 pub mod Listings
 pub mod LogLines
-pub mod Named
 pub mod Numbers
 pub mod PlanLines
 pub mod Plans
 pub mod Refusals
 pub mod Stored
 pub mod Texts
-pub mod Words

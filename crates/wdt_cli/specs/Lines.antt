@@ -9,18 +9,20 @@ use Rattle.wdt_cli.specs.declared.status.Status.TheVariants.{Done, Usage, Source
 use Rattle.wdt_sender_fsm.specs.declared.answers.RefusedKind.{RefusedKind}
 use Rattle.wdt_sender_fsm.specs.declared.answers.RefusedKind.TheVariants.{BadScript, BadPath, Reserved, Twice, TooMany, TooLarge, TooManyBlocks, Stale, BadLog}
 
--- the seven lines of a report, and the last line of a run that is done
-abbrev pub done_text : Report → List ℕ
-done_text report = codes "files " ++ decimal report.files ++ codes "\nblocks " ++ decimal report.blocks
-    ++ codes "\nbytes " ++ decimal report.bytes ++ codes "\nconnections 1\nrequeued 0\nclosed 0\nsessions 1\nok\n"
+-- the seven lines of a report
+abbrev pub report_lines : Report → List ℕ
+report_lines report = codes "files " ++ decimal report.files ++ codes "\nblocks " ++ decimal report.blocks
+    ++ codes "\nbytes " ++ decimal report.bytes ++ codes "\nconnections 1\nrequeued 0\nclosed 0\nsessions 1\n"
 
 -- a byte of a path on one line: a backslash as two, a line feed as a backslash and an n
 abbrev pub printed_byte : ℕ → List ℕ
 printed_byte b = if b == 92 then 92 ∷ 92 ∷ [] else if b == 10 then 92 ∷ 110 ∷ [] else b ∷ []
 
+-- a path on one line
 abbrev pub printed : List ℕ → List ℕ
 printed path = flat_map printed_byte path
 
+-- what is refused, and where
 abbrev pub refusal_of : RefusedKind → List ℕ
 refusal_of (BadScript line) = codes "bad script line " ++ decimal line
 refusal_of (BadPath at) = codes "bad path " ++ decimal at
@@ -36,6 +38,16 @@ refusal_of (BadLog at) = codes "bad log " ++ decimal at
 abbrev pub refusal_line : RefusedKind → List ℕ
 refusal_line kind = codes "refused: " ++ refusal_of kind ++ codes "\n"
 
+-- the last line of a run, by how it ends; where standard output failed or memory ran out there is none
+abbrev pub last_line : Status → List ℕ
+last_line Done = codes "ok\n"
+last_line Usage = codes "usage\n"
+last_line SourceFault = codes "source fault\n"
+last_line DiskFault = codes "disk fault\n"
+last_line (Refused kind) = refusal_line kind
+last_line OutFault = []
+last_line NoMemory = []
+
 -- ---- what a sink that tells its bytes got
 
 -- all of the text
@@ -48,12 +60,13 @@ abbrev pub GotMost : List ℕ → ℕ → ℕ → Option (List ℕ) → Option (
 GotMost text before after None new = new ≡ None
 GotMost text before after (Some old) new = (n : ℕ) × (new ≡ Some (old ++ take n text)) × (Stands before after → new ≡ Some (old ++ text))
 
--- the one last line of a run that isn't done
+-- the last line of a run that isn't done. Behind a sink that failed, and where memory ran out, nothing is
+-- promised here.
 abbrev pub PrintsLine : Status → ℕ → ℕ → Option (List ℕ) → Option (List ℕ) → Type 0
 PrintsLine Done before after old new = ⊥
-PrintsLine Usage before after old new = GotMost (codes "usage\n") before after old new
-PrintsLine SourceFault before after old new = GotMost (codes "source fault\n") before after old new
-PrintsLine DiskFault before after old new = GotMost (codes "disk fault\n") before after old new
-PrintsLine (Refused kind) before after old new = GotMost (refusal_line kind) before after old new
+PrintsLine Usage before after old new = GotMost (last_line Usage) before after old new
+PrintsLine SourceFault before after old new = GotMost (last_line SourceFault) before after old new
+PrintsLine DiskFault before after old new = GotMost (last_line DiskFault) before after old new
+PrintsLine (Refused kind) before after old new = GotMost (last_line (Refused kind)) before after old new
 PrintsLine OutFault before after old new = Unit {0}
 PrintsLine NoMemory before after old new = Unit {0}

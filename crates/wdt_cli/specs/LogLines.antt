@@ -19,7 +19,7 @@ file_line number f =
 abbrev pub file_lines : NamedFile → List ℕ
 file_lines f = file_line f.number f.have ++ flat_map range_line f.have.spans
 
--- the files of a log, where it ends, and the last line; or that there is none
+-- the files of a log, and where it ends; or that there is none
 abbrev pub log_text : Option Meaning → List ℕ
-log_text None = codes "no log\nok\n"
-log_text (Some m) = flat_map file_lines m.files ++ codes "end " ++ decimal m.end ++ codes "\nok\n"
+log_text None = codes "no log\n"
+log_text (Some m) = flat_map file_lines m.files ++ codes "end " ++ decimal m.end ++ codes "\n"

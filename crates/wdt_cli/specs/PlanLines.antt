@@ -10,6 +10,7 @@ use Rattle.wdt_cli.specs.Lines.{printed}
 abbrev pub AreOfTree : List Entry → List Block → Type 0
 AreOfTree entries blocks = All (λ (block : Block). block.file < length entries) blocks
 
+-- the path of an entry, or an empty one
 abbrev pub path_or : Option Entry → List ℕ
 path_or None = []
 path_or (Some entry) = entry.path
@@ -22,6 +23,7 @@ path_at entries file = path_or (slice_get entries file)
 abbrev pub block_line : List Entry → Block → List ℕ
 block_line entries block = decimal block.offset ++ codes " " ++ decimal block.length ++ codes " " ++ printed (path_at entries block.file) ++ codes "\n"
 
+-- how many bytes a block has
 abbrev pub length_of : Block → ℕ
 length_of block = block.length
 
@@ -29,7 +31,7 @@ length_of block = block.length
 abbrev pub bytes_of : List Block → ℕ
 bytes_of blocks = sum_by length_of blocks
 
--- the line of each block, how many there are, how many bytes they have, and the last line
+-- the line of each block, how many there are, and how many bytes they have
 abbrev pub plan_text : List Entry → List Block → List ℕ
 plan_text entries blocks =
-    flat_map (block_line entries) blocks ++ codes "blocks " ++ decimal (length blocks) ++ codes "\nbytes " ++ decimal (bytes_of blocks) ++ codes "\nok\n"
+    flat_map (block_line entries) blocks ++ codes "blocks " ++ decimal (length blocks) ++ codes "\nbytes " ++ decimal (bytes_of blocks) ++ codes "\n"

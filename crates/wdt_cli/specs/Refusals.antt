@@ -13,8 +13,8 @@ use Rattle.wdt_discover.specs.declared.fail.PlanFail.TheVariants as plans
 use Rattle.wdt_discover.specs.Plan.{refusal}
 use Rattle.wdt_sender_fsm.specs.declared.answers.RefusedKind.{RefusedKind}
 use Rattle.wdt_sender_fsm.specs.declared.answers.RefusedKind.TheVariants.{BadPath, Reserved, Twice, TooMany, TooLarge, TooManyBlocks, Stale, BadLog}
-use Rattle.wdt_cli.specs.declared.command.Command.{Command}
-use Rattle.wdt_cli.specs.declared.command.Command.TheVariants.{Rehearse, Plan, Log}
+use Rattle.wdt_words.specs.declared.command.Command.{Command}
+use Rattle.wdt_words.specs.declared.command.Command.TheVariants.{Rehearse, Plan, Log}
 use Rattle.wdt_rehearsal.specs.declared.rehearsal.Failure.{Failure}
 use Rattle.wdt_rehearsal.specs.declared.rehearsal.Failure.TheVariants as failure
 use Rattle.wdt_rehearsal.specs.Causes.{IsRefusedFor as IsRehearsalRefused}
@@ -28,9 +28,11 @@ pub record Grounds : Type 0 where
 abbrev pub no_log : Result Meaning ℕ
 no_log = Ok (record { files = []; end = 0 })
 
+-- a listing alone
 abbrev pub of_listing : List Entry → Grounds
 of_listing listing = record { listing = listing; log = no_log }
 
+-- a listing, and the log of a disk
 abbrev pub with_log : List Entry → Told → Grounds
 with_log listing t = record { listing = listing; log = log_of (seen_of t.now) }
 
@@ -54,6 +56,7 @@ abbrev pub IsLogRefused : Result Meaning ℕ → RefusedKind → Type 0
 IsLogRefused log (BadLog at) = log ≡ Err at
 IsLogRefused log other = ⊥
 
+-- what is answered where a tree isn't planned
 abbrev pub unplanned_kind : PlanFail → Option RefusedKind
 unplanned_kind (plans.Stale path logged found) = Some (Stale path logged found)
 unplanned_kind (plans.TooManyBlocks count) = Some (TooManyBlocks count)
@@ -85,6 +88,13 @@ IsRefusedFor Log g kind = IsLogRefused g.log kind
 abbrev pub IfJudged : Option Command → Option (List Entry) → Option Told → (Command → Grounds → Type 0) → Type 0
 IfJudged None listing told P = Unit {0}
 IfJudged (Some command) listing told P = IfSome (grounds_of command listing told) (P command)
+
+-- said of the listing, where the words are a command that takes one, and it is told
+abbrev pub IfListed : Option Command → Option (List Entry) → (List Entry → Type 0) → Type 0
+IfListed None listing P = Unit {0}
+IfListed (Some Rehearse) listing P = IfSome listing P
+IfListed (Some (Plan block)) listing P = IfSome listing P
+IfListed (Some Log) listing P = Unit {0}
 
 -- a failure for its cause: a refusal holds, where what is judged is told
 abbrev pub IsCauseOf : Option Grounds → (Grounds → RefusedKind → Type 0) → Failure → Type 0

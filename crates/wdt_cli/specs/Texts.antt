@@ -1,21 +1,21 @@
 -- The lines of a command that is done, and what it leaves.
-use Rattle.std.specs.Prelude.{◌≡◌, List, ℕ, Option, Some, None}
+use Rattle.std.specs.Prelude.{◌≡◌, List, ◌++◌, ℕ, Option, Some, None}
 use Rattle.wdt_tree.specs.declared.entry.Entry.{Entry}
 use Rattle.wdt_depot.specs.Moments.{Told}
 use Rattle.wdt_rehearsal.specs.declared.report.Report.{Report}
 use Rattle.wdt_rehearsal.specs.Reports.{IsReportFor}
-use Rattle.wdt_cli.specs.declared.command.Command.{Command}
-use Rattle.wdt_cli.specs.declared.command.Command.TheVariants.{Rehearse, Plan, Log}
+use Rattle.wdt_words.specs.declared.command.Command.{Command}
+use Rattle.wdt_words.specs.declared.command.Command.TheVariants.{Rehearse, Plan, Log}
 use Rattle.wdt_cli.specs.declared.status.Status.{Status}
-use Rattle.wdt_cli.specs.declared.status.Status.TheVariants.{Done}
-use Rattle.wdt_cli.specs.Lines.{done_text, Got, PrintsLine}
+use Rattle.wdt_cli.specs.declared.status.Status.TheVariants.{Done, OutFault}
+use Rattle.wdt_cli.specs.Lines.{last_line, report_lines, Got, GotMost, PrintsLine}
 use Rattle.wdt_cli.specs.Plans.{IsPlan}
 use Rattle.wdt_cli.specs.Stored.{IsShown}
 
--- the text is that of a command: the report of the listing's tree, the plan of the listing against the
+-- the lines are those of a command: the report of the listing's tree, the plan of the listing against the
 -- destination's log, or that log
 abbrev pub IsTextOf : Command → Option (List Entry) → Option Told → List ℕ → Type 0
-IsTextOf Rehearse listing told text = (report : Report) × IsReportFor listing report × (text ≡ done_text report)
+IsTextOf Rehearse listing told text = (report : Report) × IsReportFor listing report × (text ≡ report_lines report)
 IsTextOf (Plan block) listing told text = IsPlan block listing told text
 IsTextOf Log listing told text = IsShown told text
 
@@ -24,7 +24,9 @@ abbrev pub IsTextFor : Option Command → Option (List Entry) → Option Told �
 IsTextFor None listing told text = ⊥
 IsTextFor (Some command) listing told text = IsTextOf command listing told text
 
--- what the sink got behind each status: the command's lines, or the one last line
+-- What the sink got behind each status: the command's lines and the last one where it is done, and a front
+-- of them where the sink failed, so that all else went well; behind the others the last line alone.
 abbrev pub Prints : Option Command → Option (List Entry) → Option Told → Status → ℕ → ℕ → Option (List ℕ) → Option (List ℕ) → Type 0
-Prints command listing told Done before after old new = (text : List ℕ) × IsTextFor command listing told text × Got text old new
+Prints command listing told Done before after old new = (lines : List ℕ) × IsTextFor command listing told lines × Got (lines ++ last_line Done) old new
+Prints command listing told OutFault before after old new = (lines : List ℕ) × IsTextFor command listing told lines × GotMost (lines ++ last_line Done) before after old new
 Prints command listing told status before after old new = PrintsLine status before after old new

@@ -1,5 +1,5 @@
 //! What went wrong, in a line for a person.
-use crate::help::USAGE;
+use crate::misreading::explain_words;
 use crate::status::Status;
 use std::alloc::Global;
 use std::io;
@@ -7,26 +7,32 @@ use std::rt::Files;
 use wdt_folder::{Fault, FolderSource, OneLine};
 use wdt_sender_fsm::RefusedKind;
 
-/// Writes one line on standard error for what went wrong; the usage for a wrong word.
+/// Writes one line on standard error for what went wrong, and for a wrong word the usage of its command.
 pub fn explain<R: Files + AllocGlobal + Clone + Drop>(
     rt: &impl Eprint,
     alloc: Global,
     status: &Status,
+    words: &[String],
     source: &FolderSource<R>,
     disk: Option<&Fault>,
     out: Option<&io::Error>,
 ) -> io::Result<()> {
     match status {
         Status::Done => Ok(()),
-        Status::Usage => eprint!(rt; "{}", USAGE),
+        Status::Usage => explain_words(rt, words),
         Status::SourceFault => explain_fault(rt, source.fault()),
         Status::DiskFault => explain_fault(rt, disk),
         Status::Refused(kind) => explain_refusal(rt, alloc, kind, source),
-        Status::OutFault => match out {
-            Some(reason) => eprintln!(rt; "wdt: writing standard output: {reason}"),
-            None => Ok(()),
-        },
+        Status::OutFault => explain_out(rt, out),
         Status::NoMemory => eprintln!(rt; "wdt: out of memory"),
+    }
+}
+
+/// Says why standard output couldn't be written.
+pub fn explain_out(rt: &impl Eprint, out: Option<&io::Error>) -> io::Result<()> {
+    match out {
+        Some(reason) => eprintln!(rt; "wdt: writing standard output: {reason}"),
+        None => Ok(()),
     }
 }
 

@@ -5,7 +5,7 @@ use crate::tool::tool;
 use std::alloc::Global;
 use std::process::Abort;
 use std::test::Fail;
-use wdt_depot::MemDepot;
+use wdt_depot::{Crash, Depot, MemDepot};
 use wdt_source::{MemSource, Source, SourceFail};
 use wdt_tree::{Plain, RawEntry};
 use wdt_units::{MemSink, Name};
@@ -57,13 +57,13 @@ pub fn run(
     Ok((tooled.status.code(), Vec::from_slice(alloc, out.bytes())?))
 }
 
-/// A source that lists paths of any kind, each of a file with the same size and bytes, and tells
-/// nothing.
+/// A source that lists paths of any kind, each of a file with the same size and no readable bytes, and
+/// tells nothing.
 #[derive(Drop)]
 pub struct Paths {
-    pub paths: Vec<Vec<u8>>,
-    pub size: u64,
-    pub bytes: Vec<u8>,
+    paths: Vec<Vec<u8>>,
+    size: u64,
+    fails: bool,
 }
 
 impl Source for Paths {
@@ -84,18 +84,14 @@ impl Source for Paths {
                 stamp: 0,
             })?;
         }
-        if raw.len() < 4_294_967_296 {
+        if !self.fails && raw.len() < 4_294_967_296 {
             return Ok(raw);
         }
         Err(SourceFail::Failed)
     }
 
-    fn read_exact_at(&mut self, _: &Name, _: u64, into: &mut [u8]) -> Result<(), SourceFail> {
-        if into.len() != self.bytes.len() {
-            return Err(SourceFail::Failed);
-        }
-        into.copy_from_slice(&self.bytes);
-        Ok(())
+    fn read_exact_at(&mut self, _: &Name, _: u64, _: &mut [u8]) -> Result<(), SourceFail> {
+        Err(SourceFail::Failed)
     }
 
     ghost told_is_tree = { λ _. tt };
@@ -103,14 +99,40 @@ impl Source for Paths {
     ghost told_is_listed = { λ _. tt };
 }
 
-pub fn paths_of(alloc: Global, paths: &[&[u8]], bytes: &[u8]) -> Result<Paths, Fail> {
+/// What goes wrong in a run.
+#[derive(Clone, Copy)]
+pub struct Faults {
+    pub source: bool,
+    pub depot: bool,
+    pub sink: bool,
+}
+
+/// The status and the lines of these words, where the source lists these paths, each of a file of this
+/// size, the depot has a log of these bytes, and what is named goes wrong.
+pub fn run_failing(
+    alloc: Global,
+    words: &[&str],
+    paths: &[&[u8]],
+    size: u64,
+    log: &[u8],
+    faults: Faults,
+) -> Result<(u8, Vec<u8>), Fail> {
     let mut source = Paths {
         paths: Vec::new(alloc),
-        size: bytes.len() as u64,
-        bytes: Vec::from_slice(alloc, bytes)?,
+        size,
+        fails: faults.source,
     };
     for path in paths {
         source.paths.push(Vec::from_slice(alloc, path)?)?;
     }
-    Ok(source)
+    let mut stored = Vec::new(alloc);
+    stored.push(plain(alloc, ".wlog", log)?)?;
+    let mut depot = MemDepot::of(alloc, stored, Vec::new(alloc))?;
+    // A stop that strikes at once, or never in a run.
+    depot.arm(if faults.depot { 1 } else { 1_000 }, 0);
+    let _ = depot.make(&Name::read(alloc, b"a")?);
+    let mut out = MemSink::of(alloc, vec![in alloc; if faults.sink { 1 } else { 2u32 }]?);
+    let words = words_of(alloc, words)?;
+    let tooled = tool(alloc, &words, &mut source, depot, &mut out);
+    Ok((tooled.status.code(), Vec::from_slice(alloc, out.bytes())?))
 }

@@ -3,25 +3,39 @@
 /// What `wdt --version` prints.
 pub const VERSION: &str = "wdt 0.1.0\n";
 
-/// What `wdt --help` prints. On a wrong word it stands on standard error.
-pub const USAGE: &str = "\
+/// What `wdt --help` prints, in parts.
+pub const HELP: [&str; 5] = [HEAD, REHEARSE, PLAN, LOG, TAIL];
+
+const HEAD: &str = "\
 wdt copies a directory tree from a sender to a receiver.
 
 usage:
+";
+
+const REHEARSE: &str = "  \
   wdt rehearse SRC              copies the files below the folder SRC into memory, over
                                 one connection, and prints what was sent; nothing is
                                 written anywhere
                                 example: wdt rehearse photos
+";
+
+const PLAN: &str = "  \
   wdt plan SRC DST [--block N]  lists what the folder DST still lacks of SRC by its log,
                                 in blocks of at most N bytes: 1 to 67108864, or else
                                 16777216; nothing is written anywhere
                                 example: wdt plan photos backup --block 1048576
+";
+
+const LOG: &str = "  \
   wdt log DST                   prints what the log of the folder DST says
                                 example: wdt log backup
+";
+
+const TAIL: &str = "  \
   wdt --help                    prints this
   wdt --version                 prints the version
 
-SRC and DST are words that don't begin with `-`.
+SRC and DST are words that don't begin with `-`. Options stand behind them.
 
 exit statuses:
   0   done
@@ -32,3 +46,17 @@ exit statuses:
   8   standard output failed
   10  memory ran out
 ";
+
+/// The usage of the command of this name alone; empty where there is no such command.
+pub fn usage_of(command: &str) -> &'static str {
+    if command == "rehearse" {
+        return REHEARSE;
+    }
+    if command == "plan" {
+        return PLAN;
+    }
+    if command == "log" {
+        return LOG;
+    }
+    ""
+}

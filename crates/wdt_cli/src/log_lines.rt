@@ -1,5 +1,5 @@
 //! The lines of a log.
-ghost use Rattle.std.specs.Prelude.{◌≡◌, ◌++◌, codes, map, IfOk, OnOk, None, Some};
+ghost use Rattle.std.specs.Prelude.{◌≡◌, ◌++◌, codes, IfOk, OnOk, None, Some};
 ghost use Rattle.std.specs.List.{flat_map};
 ghost use Rattle.std.specs.Fmt.{decimal};
 ghost use Rattle.wdt_ranges.specs.Files.{have_file};
@@ -10,9 +10,9 @@ ghost use Rattle.wdt_cli.specs.LogLines.{file_line, file_lines, log_text, range_
 use crate::report::push_printed;
 use std::alloc::{AllocError, Global};
 use wdt_logfmt::{LogFile, LogView};
-use wdt_ranges::{FileHave, Span};
+use wdt_ranges::{FileHave, Span, Spans};
 
-/// The lines of a log, and the last line of a run that is done.
+/// The lines of a log.
 pub fn log_text(alloc: Global, view: &LogView) -> Result<Vec<u8>, AllocError>
     ensures { IfOk result (λ text. text.items ≡ log_text (Some (meaning_of view.now))) }
 {
@@ -26,7 +26,7 @@ pub fn log_text(alloc: Global, view: &LogView) -> Result<Vec<u8>, AllocError>
 pub fn no_log_text(alloc: Global) -> Result<Vec<u8>, AllocError>
     ensures { IfOk result (λ text. text.items ≡ log_text None) }
 {
-    Ok(Vec::from_slice(alloc, b"no log\nok\n")?)
+    Ok(Vec::from_slice(alloc, b"no log\n")?)
 }
 
 fn push_files(alloc: Global, text: &mut Vec<u8>, files: &[LogFile]) -> Result<(), AllocError>
@@ -63,11 +63,11 @@ fn push_name(
     Ok(())
 }
 
-fn push_spans(alloc: Global, text: &mut Vec<u8>, spans: &[Span]) -> Result<(), AllocError>
-    ensures { OnOk result (text.new.items ≡ text.old.items ++ flat_map range_line (map plain_span spans.now)) }
+fn push_spans(alloc: Global, text: &mut Vec<u8>, spans: Spans<'_>) -> Result<(), AllocError>
+    ensures { OnOk result (text.new.items ≡ text.old.items ++ flat_map range_line spans.entry) }
 {
     for span in spans {
-        push_span(alloc, text, *span)?;
+        push_span(alloc, text, span)?;
     }
     Ok(())
 }
@@ -81,11 +81,11 @@ fn push_span(alloc: Global, text: &mut Vec<u8>, span: Span) -> Result<(), AllocE
     Ok(())
 }
 
-// Appends where the log ends, and the last line.
+// Appends where the log ends.
 fn push_end(alloc: Global, text: &mut Vec<u8>, end: u64) -> Result<(), AllocError>
-    ensures { OnOk result (text.new.items ≡ text.old.items ++ (codes "end " ++ decimal end ++ codes "\nok\n")) }
+    ensures { OnOk result (text.new.items ≡ text.old.items ++ (codes "end " ++ decimal end ++ codes "\n")) }
 {
-    let line = format!(in alloc; "end {end}\nok\n")?;
+    let line = format!(in alloc; "end {end}\n")?;
     text.extend_from_slice(line.as_bytes())?;
     Ok(())
 }

@@ -5,7 +5,6 @@
 //! and `--version`.
 #![tactic(auto)]
 
-mod command;
 mod explaining;
 #[cfg(test)]
 mod fixtures;
@@ -13,6 +12,7 @@ mod help;
 mod listing;
 mod log;
 mod log_lines;
+mod misreading;
 mod plan;
 mod plan_lines;
 mod rehearsal;
@@ -22,94 +22,120 @@ mod stored;
 #[cfg(test)]
 mod tests;
 mod tool;
-mod words;
 
-use command::Command;
-use explaining::explain;
+use explaining::{explain, explain_out};
 use status::Status;
 use std::alloc::{AllocError, Global};
-use std::io;
+use std::io::{self, ErrorKind};
 use std::process::ExitCode;
 use std::rt::Env;
 use tool::tool;
 use wdt_depot::MemDepot;
 use wdt_folder::{FolderDepot, FolderSource};
-use wdt_units::ToWrite;
-use words::{command_of, folders_of};
+use wdt_units::{Sink, ToWrite};
+use wdt_words::{Named, folders_of};
 
-fn main(rt: HostRuntime) -> io::Result<ExitCode> {
-    let alloc = rt.alloc();
-    let words = words_of(&rt, alloc)?;
+fn main(rt: HostRuntime) -> ExitCode {
+    let status = match run(&rt, rt.alloc()) {
+        Ok(status) => status,
+        Err(_) => {
+            let _ = eprintln!(rt; "wdt: out of memory");
+            Status::NoMemory
+        }
+    };
+    ExitCode::from(status.code())
+}
+
+// Runs the words of the process. What can't be written to standard error changes no status.
+fn run(rt: &HostRuntime, alloc: Global) -> Result<Status, AllocError> {
+    let words = words_of(rt, alloc)?;
     if let [word] = words.as_slice() {
         if word.as_str() == "--help" {
-            print!(rt; "{}", help::USAGE)?;
-            return Ok(ExitCode::from(0));
+            return Ok(tell(rt, &help::HELP));
         }
         if word.as_str() == "--version" {
-            print!(rt; "{}", help::VERSION)?;
-            return Ok(ExitCode::from(0));
+            return Ok(tell(rt, &[help::VERSION]));
         }
     }
-    let status = match command_of(&words) {
-        Some(Command::Plan { .. }) | Some(Command::Log) => on_folders(&rt, alloc, &words)?,
-        Some(Command::Rehearse) | None => in_memory(&rt, alloc, &words)?,
-    };
-    Ok(ExitCode::from(status.code()))
+    match folders_of(alloc, &words) {
+        Ok(Some(named)) => run_on(rt, alloc, &words, named),
+        Ok(None) => in_memory(rt, alloc, &words, String::new(alloc)),
+        Err(_) => Err(AllocError),
+    }
+}
+
+// Puts texts of the program's own on standard output.
+fn tell(rt: &HostRuntime, texts: &[&str]) -> Status {
+    let mut out = ToWrite::of(io::writer(rt));
+    for text in texts {
+        if out.put(text.as_bytes()).is_err() {
+            let _ = explain_out(rt, out.fault());
+            return Status::OutFault;
+        }
+    }
+    Status::Done
+}
+
+// Runs the words of a command that names these folders: one that has no destination copies into memory.
+fn run_on(
+    rt: &HostRuntime,
+    alloc: Global,
+    words: &[String],
+    named: Named,
+) -> Result<Status, AllocError> {
+    let Named { source, dest, .. } = named;
+    if dest.is_empty() {
+        return in_memory(rt, alloc, words, source);
+    }
+    on_folders(rt, alloc, words, source, dest)
 }
 
 // Runs the words from a folder into memory.
-fn in_memory(rt: &HostRuntime, alloc: Global, words: &[String]) -> io::Result<Status> {
-    let source = match folders_of(alloc, words) {
-        Ok(Some(named)) => named.source,
-        Ok(None) => String::new(alloc),
-        Err(_) => return out_of_memory(rt),
-    };
+fn in_memory(
+    rt: &HostRuntime,
+    alloc: Global,
+    words: &[String],
+    source: String,
+) -> Result<Status, AllocError> {
     let Ok(depot) = MemDepot::of(alloc, Vec::new(alloc), Vec::new(alloc)) else {
-        return out_of_memory(rt);
+        return Err(AllocError);
     };
     let mut source = FolderSource::at(rt.clone()?, source);
     let mut out = ToWrite::of(io::writer(rt));
-    let tooled = tool(alloc, words, &mut source, depot, &mut out);
-    // A line that standard error doesn't take changes nothing of the run.
-    let _ = explain(rt, alloc, &tooled.status, &source, None, out.fault());
-    Ok(tooled.status)
+    let status = tool(alloc, words, &mut source, depot, &mut out).status;
+    let _ = explain(rt, alloc, &status, words, &source, None, out.fault());
+    Ok(status)
 }
 
 // Runs the words on two folders.
-fn on_folders(rt: &HostRuntime, alloc: Global, words: &[String]) -> io::Result<Status> {
-    let named = match folders_of(alloc, words) {
-        Ok(Some(named)) => named,
-        Ok(None) => return Ok(Status::Usage),
-        Err(_) => return out_of_memory(rt),
-    };
-    let mut source = FolderSource::at(rt.clone()?, named.source);
-    let depot = FolderDepot::at(rt.clone()?, named.dest);
+fn on_folders(
+    rt: &HostRuntime,
+    alloc: Global,
+    words: &[String],
+    source: String,
+    dest: String,
+) -> Result<Status, AllocError> {
+    let mut source = FolderSource::at(rt.clone()?, source);
+    let depot = FolderDepot::at(rt.clone()?, dest);
     let mut out = ToWrite::of(io::writer(rt));
     let tooled = tool(alloc, words, &mut source, depot, &mut out);
-    let _ = explain(
-        rt,
-        alloc,
-        &tooled.status,
-        &source,
-        tooled.depot.fault(),
-        out.fault(),
-    );
+    let disk = tooled.depot.fault();
+    let _ = explain(rt, alloc, &tooled.status, words, &source, disk, out.fault());
     Ok(tooled.status)
 }
 
-fn out_of_memory(rt: &impl Eprint) -> io::Result<Status> {
-    eprintln!(rt; "wdt: out of memory")?;
-    Ok(Status::NoMemory)
-}
-
-// The words behind the program's name. Words that aren't UTF-8 are no form of a command, and neither
-// are none at all.
+// The words behind the program's name. Where one isn't UTF-8 there are none, which is no form of a
+// command.
 fn words_of(rt: &(impl Env + AllocGlobal), alloc: Global) -> Result<Vec<String>, AllocError> {
     let mut words = Vec::new(alloc);
-    if let Ok(all) = std::env::args(rt) {
-        for word in all.skip(1) {
-            words.push(word)?;
+    match std::env::args(rt) {
+        Ok(all) => {
+            for word in all.skip(1) {
+                words.push(word)?;
+            }
+            Ok(words)
         }
+        Err(reason) if reason.kind() == ErrorKind::OutOfMemory => Err(AllocError),
+        Err(_) => Ok(words),
     }
-    Ok(words)
 }

@@ -1,15 +1,17 @@
 //! The command `plan`: what is still to be sent of a source's tree to a destination.
-ghost use Rattle.std.specs.Prelude.{◌≡◌, ◌≤◌, [], None, IfErr, IfOk, IsErrOf, IsTrue, OnOk};
-ghost use Rattle.wdt_units.specs.Counts.{Rises};
+ghost use Rattle.std.specs.Prelude.{◌≡◌, ◌≤◌, [], None, IfErr, IfOk, IfSome, IsErrOf, IsTrue, OnOk};
+ghost use Rattle.wdt_units.specs.Counts.{Rises, Stands};
 ghost use Rattle.wdt_ranges.specs.Files.{is_in_order};
 ghost use Rattle.wdt_depot.specs.State.{Counts, OnlyLooks};
 ghost use Rattle.wdt_tree.specs.Rest.{IsRest};
 ghost use Rattle.wdt_rest.specs.RestOf.{rest_of};
 ghost use Rattle.wdt_discover.specs.Plan.{refusal};
+ghost use Rattle.wdt_sender_fsm.specs.declared.answers.RefusedKind.{RefusedKind};
+ghost use Rattle.wdt_rehearsal.specs.Causes.{RefusesRun};
 ghost use Rattle.wdt_cli.specs.PlanLines.{plan_text};
 ghost use Rattle.wdt_cli.specs.Plans.{IsPlan, IsPlanningCause, of_planning};
-ghost use Rattle.wdt_cli.specs.Refusals.{grounds_of, IsCauseOf, IsPlanRefused};
-ghost use Rattle.wdt_cli.specs.declared.command.Command.TheVariants as Command;
+ghost use Rattle.wdt_cli.specs.Refusals.{grounds_of, IsCauseOf, IsListingRefused, IsPlanRefused};
+ghost use Rattle.wdt_words.specs.declared.command.Command.TheVariants as Command;
 
 use crate::listing::listed;
 use crate::plan_lines::plan_text;
@@ -35,6 +37,8 @@ pub fn plan_command<S: Source, D: Depot>(
     requires spots { (D.state depot.old).spots ≡ [] }
     ensures plan { IfOk result (λ text. IsPlan block (S.listing source.old) (D.state depot.old).told text.items) }
     ensures refused { IfErr result (IsCauseOf (grounds_of (Command.Plan block) (S.listing source.old) (D.state depot.old).told) (IsPlanRefused block)) }
+    ensures refuses_listing { IfSome (S.listing source.old) (λ entries. (kind : RefusedKind) → IsListingRefused entries kind
+        → Stands (S.faults source.old) (S.faults source.new) → RefusesRun result kind) }
     ensures later { S.faults source.old ≤ S.faults source.new }
     ensures cause { IsErrOf result Failure.Source → Rises (S.faults source.old) (S.faults source.new) }
     ensures slips { S.slips source.new ≡ S.slips source.old }

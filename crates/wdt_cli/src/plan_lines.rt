@@ -9,7 +9,7 @@ use std::alloc::{AllocError, Global};
 use wdt_tree::Manifest;
 use wdt_units::Block;
 
-/// The lines of a plan of a tree, and the last line of a run that is done.
+/// The lines of a plan of a tree.
 pub fn plan_text(
     alloc: Global,
     manifest: &Manifest,
@@ -73,11 +73,11 @@ fn path_at(manifest: &Manifest, file: u32) -> &[u8]
     manifest.entry(file).path.bytes()
 }
 
-// Appends how many blocks there are, how many bytes they have, and the last line.
+// Appends how many blocks there are, and how many bytes they have.
 fn push_sums(alloc: Global, text: &mut Vec<u8>, count: u64, bytes: u64) -> Result<(), AllocError>
-    ensures { OnOk result (text.new.items ≡ text.old.items ++ (codes "blocks " ++ decimal count ++ codes "\nbytes " ++ decimal bytes ++ codes "\nok\n")) }
+    ensures { OnOk result (text.new.items ≡ text.old.items ++ (codes "blocks " ++ decimal count ++ codes "\nbytes " ++ decimal bytes ++ codes "\n")) }
 {
-    let sums = format!(in alloc; "blocks {count}\nbytes {bytes}\nok\n")?;
+    let sums = format!(in alloc; "blocks {count}\nbytes {bytes}\n")?;
     text.extend_from_slice(sums.as_bytes())?;
     Ok(())
 }

@@ -6,11 +6,11 @@ ghost use Rattle.wdt_depot.specs.State.{Counts};
 ghost use Rattle.wdt_sender_fsm.specs.declared.answers.RefusedKind.{RefusedKind};
 ghost use Rattle.wdt_rehearsal.specs.Causes.{IsUntouched, RefusesRun};
 ghost use Rattle.wdt_rehearsal.specs.Destination.{Lands};
-ghost use Rattle.wdt_cli.specs.declared.command.Command.TheVariants as Command;
-ghost use Rattle.wdt_cli.specs.Refusals.{grounds_of, IsCauseOf, IsRefusedFor};
+ghost use Rattle.wdt_words.specs.declared.command.Command.TheVariants as Command;
+ghost use Rattle.wdt_cli.specs.Refusals.{grounds_of, IsCauseOf, IsListingRefused, IsRefusedFor};
 ghost use Rattle.wdt_cli.specs.Texts.{IsTextOf};
 
-use crate::report::done_text;
+use crate::report::report_lines;
 use std::alloc::Global;
 use wdt_depot::Depot;
 use wdt_rehearsal::{Failure, rehearse};
@@ -28,6 +28,8 @@ pub fn rehearse_command<S: Source, D: Depot>(
     ensures refused { IfErr result (IsCauseOf (grounds_of Command.Rehearse (S.listing source.old) (D.state depot.old).told) (IsRefusedFor Command.Rehearse)) }
     ensures refuses { IfSome (grounds_of Command.Rehearse (S.listing source.old) (D.state depot.old).told) (λ g. (kind : RefusedKind) → IsRefusedFor Command.Rehearse g kind
         → Stands (S.faults source.old) (S.faults source.new) → Stands (D.state depot.old).faults (D.state depot.new).faults → RefusesRun result kind) }
+    ensures refuses_listing { IfSome (S.listing source.old) (λ entries. (kind : RefusedKind) → IsListingRefused entries kind
+        → Stands (S.faults source.old) (S.faults source.new) → RefusesRun result kind) }
     ensures later { S.faults source.old ≤ S.faults source.new }
     ensures cause { IsErrOf result Failure.Source → Rises (S.faults source.old) (S.faults source.new) }
     ensures slips { IfSome (S.told source.old) (λ files. S.slips source.new ≡ S.slips source.old) }
@@ -37,7 +39,7 @@ pub fn rehearse_command<S: Source, D: Depot>(
     ensures spots { (D.state depot.new).spots ≡ [] }
 {
     match rehearse(alloc, source, depot) {
-        Ok(rehearsed) => match done_text(alloc, &rehearsed.report) {
+        Ok(rehearsed) => match report_lines(alloc, &rehearsed.report) {
             Ok(text) => Ok(text.into_bytes()),
             Err(_) => Err(Failure::NoMemory),
         },

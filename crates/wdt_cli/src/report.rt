@@ -1,14 +1,14 @@
 //! The lines of a run.
 ghost use Rattle.std.specs.Prelude.{◌≡◌, ◌++◌, IfOk, OnOk, codes, string_bytes};
-ghost use Rattle.wdt_cli.specs.Lines.{done_text, printed, refusal_line};
+ghost use Rattle.wdt_cli.specs.Lines.{printed, refusal_line, report_lines};
 
 use std::alloc::{AllocError, Global};
 use wdt_rehearsal::Report;
 use wdt_sender_fsm::RefusedKind;
 
-/// The lines of a report and the last line of a run that is done.
-pub fn done_text(alloc: Global, report: &Report) -> Result<String, AllocError>
-    ensures { IfOk result (λ text. string_bytes text ≡ done_text report.now) }
+/// The lines of a report.
+pub fn report_lines(alloc: Global, report: &Report) -> Result<String, AllocError>
+    ensures { IfOk result (λ text. string_bytes text ≡ report_lines report.now) }
 {
     let Report {
         files,
@@ -16,7 +16,7 @@ pub fn done_text(alloc: Global, report: &Report) -> Result<String, AllocError>
         bytes,
     } = *report;
     let text = format!(in alloc;
-        "files {files}\nblocks {blocks}\nbytes {bytes}\nconnections 1\nrequeued 0\nclosed 0\nsessions 1\nok\n"
+        "files {files}\nblocks {blocks}\nbytes {bytes}\nconnections 1\nrequeued 0\nclosed 0\nsessions 1\n"
     )?;
     Ok(text)
 }

@@ -30,6 +30,8 @@ pub struct Tooled<D> {
 
 impl Status {
     ghost use Rattle.std.specs.Prelude.{◌≡◌};
+    ghost use Rattle.wdt_cli.specs.Causes.{IsNoRefusal};
+    ghost use Rattle.wdt_cli.specs.Lines.{last_line};
     ghost use Rattle.wdt_cli.specs.Numbers.{code_of};
 
     /// The number that the process ends with.
@@ -44,6 +46,18 @@ impl Status {
             Status::Refused(_) => 7,
             Status::OutFault => 8,
             Status::NoMemory => 10,
+        }
+    }
+    /// The last line of a run that ends so. That of a refusal names what is refused, and isn't here.
+    pub fn line(&self) -> &'static [u8]
+        ensures { IsNoRefusal self.now → result.now ≡ last_line self.now }
+    {
+        match self {
+            Status::Done => b"ok\n",
+            Status::Usage => b"usage\n",
+            Status::SourceFault => b"source fault\n",
+            Status::DiskFault => b"disk fault\n",
+            Status::Refused(_) | Status::OutFault | Status::NoMemory => b"",
         }
     }
 }

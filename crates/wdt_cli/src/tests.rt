@@ -1,10 +1,6 @@
 //! What no clause says: that the runs succeed, and worked examples of their lines.
-use crate::fixtures::{LOG, paths_of, run, words_of};
-use crate::tool::tool;
+use crate::fixtures::{Faults, LOG, run, run_failing};
 use std::test::Fail;
-use wdt_depot::{Crash, Depot, MemDepot};
-use wdt_source::MemSource;
-use wdt_units::{MemSink, Name};
 
 #[test]
 fn trees_are_copied_and_reported(rt: HostRuntime) -> Result<(), Fail> {
@@ -86,110 +82,134 @@ fn logs_are_shown(rt: HostRuntime) -> Result<(), Fail> {
     Ok(())
 }
 
-#[test]
-fn other_words_are_usage(rt: HostRuntime) -> Result<(), Fail> {
-    let forms: [&[&str]; 15] = [
-        &[],
-        &["rehearse"],
-        &["rehearse", "SRC", "--lanes", "17"],
-        &["rehearse", "SRC", "--block", "08"],
-        &["rehearse", "-SRC"],
-        &["copie", "SRC", "DST"],
-        &["plan", "a"],
-        &["plan", "a", ""],
-        &["plan", "a", "b", "--block"],
+const NONE: Faults = Faults {
+    source: false,
+    depot: false,
+    sink: false,
+};
+
+const SOURCE: Faults = Faults {
+    source: true,
+    ..NONE
+};
+
+const DEPOT: Faults = Faults {
+    depot: true,
+    ..NONE
+};
+
+const SINK: Faults = Faults { sink: true, ..NONE };
+
+const ALL: Faults = Faults {
+    source: true,
+    depot: true,
+    sink: true,
+};
+
+const PLAN: &[&str] = &["plan", "SRC", "DST", "--block", "1"];
+
+const LOG_OF: &[&str] = &["log", "DST"];
+
+const REHEARSE: &[&str] = &["rehearse", "SRC"];
+
+const LONGEST: &[u8] = &[b'a'; 1024];
+
+const TOO_LONG: &[u8] = &[b'a'; 1025];
+
+const EMPTY: &[u8] = b"WDTL\0\x01\x07";
+
+const BAD: &[u8] = b"WDTL\0\x01\x01";
+
+// Words, the paths that the source lists, the size of each, the log, what goes wrong; the status and the
+// lines.
+type Row = (
+    &'static [&'static str],
+    &'static [&'static [u8]],
+    u64,
+    &'static [u8],
+    Faults,
+    u8,
+    &'static [u8],
+);
+
+const ROWS: [Row; 18] = [
+    (LOG_OF, &[], 0, EMPTY, NONE, 0, b"end 6\nok\n"),
+    (PLAN, &[LONGEST], 0, EMPTY, DEPOT, 3, b"disk fault\n"),
+    (&["copie"], &[], 0, EMPTY, ALL, 1, b""),
+    (
         &["plan", "a", "b", "--block", "0"],
-        &["plan", "a", "b", "--block", "08"],
-        &["plan", "a", "b", "--block", "67108865"],
-        &["plan", "a", "b", "--block", "1", "--block", "1"],
-        &["log"],
-        &["log", "a", "b"],
-    ];
-    for words in forms {
-        let (status, lines) = run(&rt, rt.alloc(), words, &[], b"")?;
-        assert_eq!(rt; status, 1);
-        assert_eq!(rt; lines.as_slice(), b"usage\n".as_slice());
-    }
-    let (status, _) = run(
-        &rt,
-        rt.alloc(),
-        &["plan", "a", "b", "--block", "67108864"],
         &[],
-        b"",
-    )?;
-    assert_eq!(rt; status, 0);
-    Ok(())
-}
+        0,
+        EMPTY,
+        NONE,
+        1,
+        b"usage\n",
+    ),
+    (REHEARSE, &[], 0, EMPTY, SOURCE, 2, b"source fault\n"),
+    (REHEARSE, &[b"a"], 1, EMPTY, NONE, 2, b"source fault\n"),
+    (LOG_OF, &[], 0, EMPTY, DEPOT, 3, b"disk fault\n"),
+    (
+        REHEARSE,
+        &[b"x/../y"],
+        0,
+        EMPTY,
+        NONE,
+        7,
+        b"refused: bad path 0\n",
+    ),
+    (
+        REHEARSE,
+        &[b".wlog"],
+        0,
+        EMPTY,
+        NONE,
+        7,
+        b"refused: reserved 0\n",
+    ),
+    (
+        REHEARSE,
+        &[TOO_LONG],
+        0,
+        EMPTY,
+        NONE,
+        7,
+        b"refused: bad path 0\n",
+    ),
+    (
+        PLAN,
+        &[b"a"],
+        1_048_577,
+        EMPTY,
+        NONE,
+        7,
+        b"refused: too many blocks 1048577\n",
+    ),
+    (LOG_OF, &[], 0, EMPTY, SINK, 8, b""),
+    // A source that fails comes before its listing, a listing before the depot, the depot before its
+    // log, the log before the plan, and each before a sink that fails.
+    (PLAN, &[b"a", b"a"], 0, BAD, SOURCE, 2, b"source fault\n"),
+    (PLAN, &[b"a", b"a"], 0, BAD, DEPOT, 7, b"refused: twice 1\n"),
+    (PLAN, &[b"a"], 0, BAD, DEPOT, 3, b"disk fault\n"),
+    (
+        PLAN,
+        &[b"a"],
+        1_048_577,
+        BAD,
+        NONE,
+        7,
+        b"refused: bad log 7\n",
+    ),
+    (PLAN, &[b"a"], 0, BAD, SINK, 7, b""),
+    (PLAN, &[b"a"], 1, EMPTY, SINK, 8, b""),
+];
 
+// Each status but that of memory, and which of two causes is answered.
 #[test]
-fn a_failing_sink_is_answered(rt: HostRuntime) -> Result<(), Fail> {
-    let alloc = rt.alloc();
-    let mut source = MemSource::of(Vec::new(alloc), Vec::new(alloc));
-    let depot = MemDepot::of(alloc, Vec::new(alloc), Vec::new(alloc))?;
-    let mut out = MemSink::of(alloc, vec![in alloc; 1u32]?);
-    let words = words_of(alloc, &["log", "DST"])?;
-    let tooled = tool(alloc, &words, &mut source, depot, &mut out);
-    assert_eq!(rt; tooled.status.code(), 8);
-    assert_eq!(rt; out.bytes(), b"".as_slice());
-    Ok(())
-}
-
-#[test]
-fn a_depot_that_is_down_is_answered(rt: HostRuntime) -> Result<(), Fail> {
-    let alloc = rt.alloc();
-    let mut source = MemSource::of(Vec::new(alloc), Vec::new(alloc));
-    let mut depot = MemDepot::of(alloc, Vec::new(alloc), Vec::new(alloc))?;
-    depot.arm(1, 0);
-    let made = depot.make(&Name::read(alloc, b"a")?);
-    assert!(rt; made.is_err());
-    let mut out = MemSink::of(alloc, Vec::new(alloc));
-    let words = words_of(alloc, &["plan", "SRC", "DST"])?;
-    let tooled = tool(alloc, &words, &mut source, depot, &mut out);
-    assert_eq!(rt; tooled.status.code(), 3);
-    assert_eq!(rt; out.bytes(), b"disk fault\n".as_slice());
-    Ok(())
-}
-
-#[test]
-fn paths_are_refused_at_their_place(rt: HostRuntime) -> Result<(), Fail> {
-    let alloc = rt.alloc();
-    let long = [b'a'; 1025];
-    let listings: [(&[&[u8]], u8, &[u8]); 5] = [
-        (&[b"x/../y"], 7, b"refused: bad path 0\n"),
-        (&[b".wlog"], 7, b"refused: reserved 0\n"),
-        (&[&long], 7, b"refused: bad path 0\n"),
-        (&[b"a", b"a"], 7, b"refused: twice 1\n"),
-        (
-            &[&long[..1024]],
-            0,
-            b"files 1\nblocks 1\nbytes 0\nconnections 1\nrequeued 0\nclosed 0\nsessions 1\nok\n",
-        ),
-    ];
-    for (paths, status, line) in listings {
-        let mut source = paths_of(alloc, paths, b"")?;
-        let depot = MemDepot::of(alloc, Vec::new(alloc), Vec::new(alloc))?;
-        let mut out = MemSink::of(alloc, Vec::new(alloc));
-        let words = words_of(alloc, &["rehearse", "SRC"])?;
-        let tooled = tool(alloc, &words, &mut source, depot, &mut out);
-        assert_eq!(rt; tooled.status.code(), status);
-        assert_eq!(rt; out.bytes(), line);
+fn each_status_is_reached(rt: HostRuntime) -> Result<(), Fail> {
+    for (words, paths, size, log, faults, status, text) in ROWS {
+        let (ended, lines) = run_failing(rt.alloc(), words, paths, size, log, faults)?;
+        assert_eq!(rt; ended, status);
+        assert_eq!(rt; lines.as_slice(), text);
     }
-    Ok(())
-}
-
-#[test]
-fn more_blocks_than_a_plan_has_are_refused(rt: HostRuntime) -> Result<(), Fail> {
-    let alloc = rt.alloc();
-    let mut source = paths_of(alloc, &[b"a"], b"")?;
-    source.size = 1_048_577;
-    let depot = MemDepot::of(alloc, Vec::new(alloc), Vec::new(alloc))?;
-    let mut out = MemSink::of(alloc, Vec::new(alloc));
-    let words = words_of(alloc, &["plan", "SRC", "DST", "--block", "1"])?;
-    let tooled = tool(alloc, &words, &mut source, depot, &mut out);
-    assert_eq!(rt; tooled.status.code(), 7);
-    assert_eq!(rt;
-        out.bytes(),
-        b"refused: too many blocks 1048577\n".as_slice()
-    );
     Ok(())
 }

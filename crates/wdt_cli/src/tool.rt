@@ -1,30 +1,29 @@
 //! The top call: it runs the commands that wait for nobody.
-ghost use Rattle.std.specs.Prelude.{◌≡◌, ◌≢◌, ◌↔◌, ◌≤◌, ◌+◌, ◌∷◌, [], None, Some, IfErr, IfOk, IfSome, IsErrOf, OnOk, map, string_bytes};
+ghost use Rattle.std.specs.Prelude.{◌≡◌, ◌≢◌, ◌↔◌, ◌≤◌, ◌+◌, ◌++◌, ◌∷◌, [], None, Some, IfErr, IfOk, IfSome, IsErrOf, OnOk, map, string_bytes};
 ghost use Rattle.wdt_units.specs.Counts.{Rises, Stands};
 ghost use Rattle.wdt_depot.specs.Moments.{IfTold};
 ghost use Rattle.wdt_depot.specs.State.{Counts, OnlyLooks};
 ghost use Rattle.wdt_sender_fsm.specs.declared.answers.RefusedKind.{RefusedKind};
 ghost use Rattle.wdt_rehearsal.specs.Causes.{IsUntouched, RefusesRun};
 ghost use Rattle.wdt_rehearsal.specs.Destination.{Lands};
-ghost use Rattle.wdt_cli.specs.Causes.{IsFailureEnd, IsTextEnd, IsDoneOrStarved, IsRefusalEnd, IsUnrefused, LeavesDepot};
-ghost use Rattle.wdt_cli.specs.Lines.{Got, GotMost, PrintsLine};
-ghost use Rattle.wdt_cli.specs.Refusals.{grounds_of, IfJudged, IsCauseOf, IsRefusedFor};
+ghost use Rattle.wdt_cli.specs.Causes.{IsFailureEnd, IsTextEnd, IsDoneOrStarved, IsNoRefusal, IsRefusalEnd, IsUnrefused, LeavesDepot};
+ghost use Rattle.wdt_cli.specs.Lines.{last_line, Got, GotMost, PrintsLine};
+ghost use Rattle.wdt_cli.specs.Refusals.{grounds_of, IfJudged, IfListed, IsCauseOf, IsListingRefused, IsRefusedFor};
 ghost use Rattle.wdt_cli.specs.Texts.{IsTextOf, Prints};
-ghost use Rattle.wdt_cli.specs.Words.{command_of, HasBlock};
+ghost use Rattle.wdt_words.specs.Words.{command_of, HasBlock};
 
-use crate::command::Command;
 use crate::log::log_command;
 use crate::plan::plan_command;
 use crate::rehearsal::rehearse_command;
 use crate::report::refusal_line;
 use crate::status::{Status, Tooled};
-use crate::words::command_of;
 use std::alloc::Global;
 use wdt_depot::Depot;
 use wdt_rehearsal::Failure;
 use wdt_sender_fsm::RefusedKind;
 use wdt_source::Source;
 use wdt_units::Sink;
+use wdt_words::{Command, command_of};
 
 /// Runs the command that the words are.
 pub fn tool<S: Source, D: Depot, O: Sink>(
@@ -43,12 +42,14 @@ pub fn tool<S: Source, D: Depot, O: Sink>(
     ensures unwritten { command_of (map string_bytes words.now) ≡ Some Command.Rehearse → result.status ≡ Status.OutFault
         → IfSome (S.told source.old) (λ files. Lands files (D.state depot).told (D.state result.depot).told) }
     // Every other run leaves each file as it was, at every moment, and so does a rehearsal before its
-    // tree has come whole. `log` leaves the source alone.
+    // tree has come whole. `log` leaves the source alone, and so do words that are no command.
     ensures looks { command_of (map string_bytes words.now) ≢ Some Command.Rehearse → OnlyLooks (D.state depot) (D.state result.depot) }
     ensures untouched { LeavesDepot result.status (D.state depot) (D.state result.depot) }
     ensures reads_no_source { command_of (map string_bytes words.now) ≡ Some Command.Log → source.new ≡ source.old }
+    ensures unread { result.status ≡ Status.Usage → source.new ≡ source.old }
 
-    // What the sink got: the command's lines behind Done, one last line behind the others.
+    // What the sink got: the command's lines and the last one behind Done, the last line alone behind the
+    // others. Where the sink failed, all else went well.
     ensures prints { Prints (command_of (map string_bytes words.now)) (S.listing source.old) (D.state depot).told
         result.status (O.faults out.old) (O.faults out.new) (O.written out.old) (O.written out.new) }
 
@@ -62,6 +63,9 @@ pub fn tool<S: Source, D: Depot, O: Sink>(
     ensures refuses { IfJudged (command_of (map string_bytes words.now)) (S.listing source.old) (D.state depot).told (λ command. λ g.
         (kind : RefusedKind) → IsRefusedFor command g kind → Stands (S.faults source.old) (S.faults source.new)
         → Stands (D.state depot).faults (D.state result.depot).faults → IsRefusalEnd kind result.status) }
+    // So is a listing, whatever is known of the depot and whether it fails: it isn't asked.
+    ensures refuses_listing { IfListed (command_of (map string_bytes words.now)) (S.listing source.old) (λ entries.
+        (kind : RefusedKind) → IsListingRefused entries kind → Stands (S.faults source.old) (S.faults source.new) → IsRefusalEnd kind result.status) }
     ensures out_fault { result.status ≡ Status.OutFault → Rises (O.faults out.old) (O.faults out.new) }
 
     // Where there is no cause the run is done, or memory ran out.
@@ -79,12 +83,12 @@ pub fn tool<S: Source, D: Depot, O: Sink>(
 {
     let mut depot = depot;
     let Some(command) = command_of(words) else {
-        let status = close(Status::Usage, b"usage\n", out);
+        let status = end(Status::Usage, out);
         return Tooled { status, depot };
     };
     match run(alloc, command, source, &mut depot) {
-        Ok(text) => {
-            let status = put(&text, out);
+        Ok(lines) => {
+            let status = put(lines, out);
             Tooled { status, depot }
         }
         Err(failure) => {
@@ -114,6 +118,8 @@ fn run<S: Source, D: Depot>(
     ensures refused { IfErr result (IsCauseOf (grounds_of command (S.listing source.old) (D.state depot.old).told) (IsRefusedFor command)) }
     ensures refuses { IfSome (grounds_of command (S.listing source.old) (D.state depot.old).told) (λ g. (kind : RefusedKind) → IsRefusedFor command g kind
         → Stands (S.faults source.old) (S.faults source.new) → Stands (D.state depot.old).faults (D.state depot.new).faults → RefusesRun result kind) }
+    ensures refuses_listing { IfListed (Some command) (S.listing source.old) (λ entries. (kind : RefusedKind) → IsListingRefused entries kind
+        → Stands (S.faults source.old) (S.faults source.new) → RefusesRun result kind) }
     ensures slips { IfSome (S.told source.old) (λ files. S.slips source.new ≡ S.slips source.old) }
     ensures depot_slips { IfTold (λ t. (D.state depot.new).slips ≡ (D.state depot.old).slips) (D.state depot.old).told }
     ensures spots { (D.state depot.new).spots ≡ [] }
@@ -125,12 +131,17 @@ fn run<S: Source, D: Depot>(
     }
 }
 
-// Puts the lines of a command that is done.
-fn put<O: Sink>(text: &[u8], out: &mut O) -> Status
+// Puts the lines of a command that is done, and the last line, in one call.
+fn put<O: Sink>(lines: Vec<u8>, out: &mut O) -> Status
     ensures end { IsTextEnd result (O.faults out.old) (O.faults out.new) }
-    ensures got { result ≡ Status.Done → Got text.now (O.written out.old) (O.written out.new) }
+    ensures got { result ≡ Status.Done → Got (lines.items ++ last_line Status.Done) (O.written out.old) (O.written out.new) }
+    ensures most { result ≡ Status.OutFault → GotMost (lines.items ++ last_line Status.Done) (O.faults out.old) (O.faults out.new) (O.written out.old) (O.written out.new) }
 {
-    match out.put(text) {
+    let mut text = lines;
+    if text.extend_from_slice(Status::Done.line()).is_err() {
+        return Status::NoMemory;
+    }
+    match out.put(&text) {
         Ok(()) => Status::Done,
         Err(_) => Status::OutFault,
     }
@@ -142,8 +153,8 @@ fn fail<O: Sink>(alloc: Global, failure: Failure, out: &mut O) -> Status
     ensures line { PrintsLine result (O.faults out.old) (O.faults out.new) (O.written out.old) (O.written out.new) }
 {
     match failure {
-        Failure::Source => close(Status::SourceFault, b"source fault\n", out),
-        Failure::Disk => close(Status::DiskFault, b"disk fault\n", out),
+        Failure::Source => end(Status::SourceFault, out),
+        Failure::Disk => end(Status::DiskFault, out),
         Failure::Refused(kind) => refuse(alloc, kind, out),
         Failure::NoMemory => Status::NoMemory,
     }
@@ -158,6 +169,16 @@ fn refuse<O: Sink>(alloc: Global, kind: RefusedKind, out: &mut O) -> Status
         Ok(line) => close(Status::Refused(kind), &line, out),
         Err(_) => Status::NoMemory,
     }
+}
+
+// Ends with a status and its last line.
+fn end<O: Sink>(status: Status, out: &mut O) -> Status
+    requires { IsNoRefusal status }
+    ensures status { result ≡ status }
+    ensures line { GotMost (last_line status) (O.faults out.old) (O.faults out.new) (O.written out.old) (O.written out.new) }
+{
+    let line = status.line();
+    close(status, line, out)
 }
 
 // Ends with a status and its line. A line that can't be put changes no status but Done.

@@ -1,9 +1,9 @@
 -- Bytes that were appended in part, and items that are appended one by one.
 use Rattle.std.proofs.Common.{◌≡◌, ℕ, zero, suc, ◌+◌, ◌<◌, ◌≤◌, List, [], ◌∷◌, ◌++◌, length, get_or, take, map, refl, sym, ap, subst, ◌∙◌, arith}
 use Rattle.std.specs.List.{flat_map}
-use Rattle.std.proofs.lemmas.List.{take_at, take-take, take_all, take_more, length-append, flat_map_more, get_or-map, append-nil}
+use Rattle.std.proofs.lemmas.List.{take_at, take-take, take-append-le, length-take, take_all, take_more, length-append, flat_map_more, get_or-map, append-nil}
 use Rattle.wdt_units.specs.Have.{HaveFile}
-use Rattle.wdt_units.proofs.Lawful.{lawful}
+use Rattle.wdt_units.proofs.Shared.{lawful}
 use Rattle.wdt_codec.specs.Chunks.{FitFiles}
 
 pub begun-at : (old more new : List ℕ) → new ≡ old ++ more → take (length old) new ≡ old
@@ -14,6 +14,12 @@ pub begun-on : (old more mid new : List ℕ) → mid ≡ old ++ more → take (l
 begun-on old more mid new e h =
     let len : length old ≤ length mid = omega (arith, ap length e, length-append old more) in
     sym (take-take (length old) (length mid) new len) ∙ ap (take (length old)) h ∙ begun-at old more mid e
+
+-- what begins with a front begins with it also with more behind
+pub begun-longer : (old mid more new : List ℕ) → take (length old) mid ≡ old → new ≡ mid ++ more → take (length old) new ≡ old
+begun-longer old mid more new h e =
+    let len : length old ≤ length mid = omega (arith, ap length h, length-take (length old) mid) in
+    ap (take (length old)) e ∙ take-append-le (length old) mid more len ∙ h
 
 -- ---- items one by one
 

@@ -4,7 +4,7 @@ use Rattle.std.specs.Prelude.{◌==◌}
 use Rattle.std.specs.Int.{bytes_high_first}
 use Rattle.std.specs.List.{flat_map}
 use Rattle.wdt_units.specs.declared.blocks.Header.{Header}
-use Rattle.wdt_units.proofs.Lawful.{lawful}
+use Rattle.wdt_units.proofs.Shared.{lawful}
 use Rattle.wdt_codec.specs.declared.frames.Frame.{Frame}
 use Rattle.wdt_codec.specs.declared.frames.Frame.TheVariants as frames
 use Rattle.wdt_codec.specs.declared.frames.Mark.{Mark}

@@ -2,7 +2,7 @@
 use Rattle.std.proofs.Common.{◌≡◌, ℕ, zero, suc, ◌+◌, ◌-◌, ◌*◌, ◌/◌, ◌<◌, ◌≤◌, min, List, [], ◌∷◌, ◌++◌, length, length-append, refl, ap, ◌∙◌, arith}
 use Rattle.std.specs.Int.{bytes_high_first}
 use Rattle.wdt_units.specs.Have.{PlainSpan, HaveFile}
-use Rattle.wdt_units.proofs.Lawful.{lawful}
+use Rattle.wdt_units.proofs.Shared.{lawful}
 use Rattle.wdt_codec.specs.Chunks.{FitSpans, FitsFile, FitFiles, FitsChunks, spell_span, spell_spans, spell_file, spell_files, spell_chunks, span_of, span_at, span_after, spans_at, FileParts, file_of, file_at, file_step, used_after, files_of, chunks_at}
 use Rattle.wdt_codec.proofs.Field.{IsExact, both-exact, made-exact, made-exact-id, FitTimes, times-exact}
 use Rattle.wdt_codec.proofs.Digits.{Within, number-exact}

@@ -10,9 +10,7 @@ use Rattle.wdt_units.specs.declared.scan.PathScan.{PathScan}
 use Rattle.wdt_units.specs.declared.scan.PathScan.TheVariants.{Start, Dot, Dots, Plain, Last, Two, Three, AfterE0, AfterEd, AfterF0, AfterF4}
 use Rattle.wdt_units.specs.Path.{is_lawful, is_reserved}
 use Rattle.wdt_units.specs.Scan.{next, need, leaves, or_plain, scan_after}
-use Rattle.wdt_units.proofs.Lawful.{lawful, lawful-is}
-use Rattle.wdt_units.proofs.PathBytes.{leaves_need, FitsByte, Ends}
-use Rattle.wdt_units.proofs.PathParts.{path-lawful}
+use Rattle.wdt_units.proofs.Shared.{lawful, lawful-is, leaves_need, FitsByte, Ends, path-lawful}
 use Rattle.wdt_codec.specs.declared.stop.Stop.{Stop}
 use Rattle.wdt_codec.specs.declared.stop.Stop.TheVariants.{NotYet, Bad}
 use Rattle.wdt_codec.specs.Paths.{path_at}

@@ -5,7 +5,7 @@ use Rattle.std.proofs.lemmas.List.{append-nil, length-append, take_at, take-appe
 use Rattle.std.proofs.lemmas.Bool.{cases_lt, cases_order}
 use Rattle.wdt_codec.specs.declared.stop.Stop.{Stop}
 use Rattle.wdt_codec.specs.declared.stop.Stop.TheVariants.{NotYet, Bad}
-use Rattle.wdt_units.proofs.Lawful.{lawful}
+use Rattle.wdt_units.proofs.Shared.{lawful}
 use Rattle.wdt_codec.specs.declared.fails.ReadFail.{ReadFail}
 use Rattle.wdt_codec.specs.declared.fails.ReadFail.TheVariants as fails
 use Rattle.wdt_codec.specs.declared.frames.Frame.{Frame}

@@ -1,9 +1,11 @@
 -- The frames of the grammar, their spellings, and how they are read.
-use Rattle.std.specs.Prelude.{◌≡◌, ℕ, ◌+◌, ◌-◌, ◌<◌, ◌≤◌, min, Bool, true, false, List, [], ◌∷◌, ◌++◌, length, Ok, IsTrue, ◌==◌}
+use Rattle.std.specs.Prelude.{ℕ, ◌+◌, ◌-◌, ◌<◌, ◌≤◌, min, Bool, true, false, List, [], ◌∷◌, ◌++◌, length, Ok, ◌==◌}
 use Rattle.std.specs.List.{flat_map}
 use Rattle.byteorder.specs.Endian.{big_bytes}
 use Rattle.wdt_units.specs.declared.blocks.Header.{Header}
-use Rattle.wdt_units.specs.Path.{is_lawful, is_reserved}
+use Rattle.wdt_units.specs.Path.{is_reserved}
+-- which headers of blocks are in the grammar
+pub use Rattle.wdt_units.specs.Headers.{FitsHeader}
 use Rattle.wdt_codec.specs.declared.frames.Frame.{Frame}
 use Rattle.wdt_codec.specs.declared.frames.Frame.TheVariants as frames
 use Rattle.wdt_codec.specs.declared.frames.Mark.{Mark}
@@ -39,17 +41,6 @@ pub record FitsMarks (ms : List Mark) : Type 0 where
 pub record FitsSize (files bytes : ℕ) : Type 0 where
   pub few : files ≤ 262144
   pub small : bytes ≤ 1125899906842624
-
--- a lawful path that isn't one of the receiver's own, and a part of the file that is empty only
--- where the file is
-pub record FitsHeader (h : Header) : Type 0 where
-  pub path : IsTrue (is_lawful h.path)
-  pub free : is_reserved h.path ≡ false
-  pub size : h.size ≤ 1099511627776
-  pub stamp : h.stamp ≤ 18446744073709551615
-  pub end : h.offset + h.length ≤ h.size
-  pub some : min 1 h.size ≤ h.length
-  pub most : h.length ≤ 67108864
 
 abbrev pub Fits : Frame → Type 0
 Fits (frames.Settings s) = FitsSettings s

@@ -11,10 +11,7 @@ use crate::numbers::number;
 use crate::stop::Stop;
 use std::alloc::Global;
 use wdt_ranges::{FileHave, Have};
-use wdt_units::MAX_FILES;
-
-/// The greatest count of spans of all files together.
-const MAX_SPANS: u32 = 1_310_720;
+use wdt_units::{MAX_FILES, MAX_SPANS};
 
 /// The files of a Chunks that have come so far.
 #[derive(Debug, Drop)]
@@ -94,5 +91,5 @@ fn span_count(file: &FileHave) -> u32
     requires { length file.now.spans ≤ 1310720 }
     ensures { result ≡ length file.now.spans }
 {
-    file.spans.spans().len() as u32
+    file.spans.count() as u32
 }

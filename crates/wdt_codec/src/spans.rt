@@ -23,7 +23,7 @@ pub fn read_spans(
     ensures whole { IfOk result (λ x. length x.0 ≡ count) }
 {
     let (spans, rest) = span_list(alloc, bytes, size, count)?;
-    Ok((Ranges::of_spans(spans), rest))
+    Ok((Ranges::of_spans(spans)?, rest))
 }
 
 fn span_list(

@@ -7,7 +7,7 @@ ghost use Rattle.wdt_ranges.specs.Spans.{plain_span};
 
 use crate::append::{append, append_all};
 use byteorder::{BigEndian, ByteOrder};
-use wdt_ranges::{FileHave, Have, Span};
+use wdt_ranges::{FileHave, Have, Span, Spans};
 use wdt_units::NoMemory;
 
 /// Appends a Chunks. A failure on the way takes back what is there of it.
@@ -53,14 +53,13 @@ fn append_file(into: &mut Vec<u8>, file: &FileHave) -> Result<(), NoMemory>
     ensures begun { OnErr result (take (length into.old.items) into.new.items ≡ into.old.items) }
 {
     let path = file.path.bytes();
-    let spans = file.spans.spans();
     append_all(
         into,
         &length_text(path.len() as u16),
         path,
-        &file_text(file.size, file.stamp, spans.len() as u32),
+        &file_text(file.size, file.stamp, file.spans.count() as u32),
     )?;
-    append_spans(into, spans)
+    append_spans(into, file.spans.spans())
 }
 
 fn length_text(length: u16) -> [u8; 2]
@@ -81,12 +80,12 @@ fn file_text(size: u64, stamp: u64, count: u32) -> [u8; 20]
     text
 }
 
-fn append_spans(into: &mut Vec<u8>, spans: &[Span]) -> Result<(), NoMemory>
-    ensures spelled { OnOk result (into.new.items ≡ into.old.items ++ spell_spans (map plain_span spans.now)) }
+fn append_spans(into: &mut Vec<u8>, spans: Spans<'_>) -> Result<(), NoMemory>
+    ensures spelled { OnOk result (into.new.items ≡ into.old.items ++ spell_spans spans.entry) }
     ensures begun { OnErr result (take (length into.old.items) into.new.items ≡ into.old.items) }
 {
     for span in spans {
-        append(into, &span_text(span))?;
+        append(into, &span_text(&span))?;
     }
     Ok(())
 }

@@ -4,16 +4,17 @@ use Rattle.std.specs.Prelude.{IsSome, OnOk, Result, is_some, is_none, if◌then�
 use Rattle.std.specs.List.{list_any}
 use Rattle.std.specs.Str.{bytes_eq}
 use Rattle.std.proofs.lemmas.Bool.{and_parts, and_from, or_parts}
+use Rattle.wdt_units.specs.Schedule.{Schedule}
 use Rattle.wdt_depot.specs.declared.failure.DepotFail.{DepotFail}
 use Rattle.wdt_depot.specs.declared.failure.DepotFail.TheVariants.{Failed, NoMemory}
-use Rattle.wdt_depot.specs.declared.place.Place.{Place}
-use Rattle.wdt_depot.specs.declared.store.Store.{Store}
+use Rattle.wdt_depot.specs.declared.memory.place.Place.{Place}
+use Rattle.wdt_depot.specs.declared.memory.store.Store.{Store}
 use Rattle.wdt_depot.specs.Disk.{Disk, DiskFile, IfFile}
 use Rattle.wdt_depot.specs.Memory.{KeepsPaths, KeepsPathsBut, told_in}
 use Rattle.wdt_depot.specs.Outcome.{Outcome}
 use Rattle.wdt_depot.specs.Slots.{Slot, file_of}
 use Rattle.wdt_depot.specs.Spots.{all_placed}
-use Rattle.wdt_depot.specs.State.{Counts, State, lacks, without}
+use Rattle.wdt_depot.specs.State.{Counts, IsByNumber, State, lacks, without}
 use Rattle.wdt_depot.specs.View.{index_of, slot_view}
 use Rattle.wdt_depot.proofs.Owed.{at_view}
 use Rattle.wdt_depot.proofs.Slips.{file_some}
@@ -42,10 +43,10 @@ all_without spot (e ∷ es) f all =
     either_placed f e es (without spot es) (e.0 == spot) parts.0 parts.1 (all_without spot es f parts.1)
 
 -- a call that answers Ok is no slip
-pub no_slip : (slip : Bool) (done : Disk → Disk) (torn : ℕ → Disk → Disk) (r : Result (Unit {0}) DepotFail) (s s' : State) → Outcome slip done torn r s s' → OnOk r (slip ≡ false)
-no_slip true done torn (Ok x) s s' o = absurd (let both = o.slips.rose refl o.up (λ h. (cc)) in let bad = both.1 in cc)
-no_slip false done torn (Ok x) s s' o = refl
-no_slip slip done torn (Err e) s s' o = tt
+pub no_slip : (cant slip : Bool) (done : Disk → Disk) (torn : ℕ → Disk → Disk) (r : Result (Unit {0}) DepotFail) (s s' : State) → Outcome cant slip done torn r s s' → OnOk r (slip ≡ false)
+no_slip cant true done torn (Ok x) s s' o = absurd (let both = o.slips.rose refl o.up (λ h. (cc)) in let bad = both.1 in cc)
+no_slip cant false done torn (Ok x) s s' o = refl
+no_slip cant slip done torn (Err e) s s' o = tt
 
 there : (o : Option DiskFile) → is_none o ≡ false → IsSome o
 there None h = cc
@@ -72,6 +73,13 @@ only_failed NoMemory h = absurd (h refl)
 
 pub counts_from : (bad bad' : Type 0) (s s' : State) → (bad' → bad) → (bad → bad') → Counts bad s s' → Counts bad' s s'
 counts_from bad bad' s s' f g c = record { faults = c.faults; own = c.own; own_then = c.own_then; slips = c.slips; rose = λ h. c.rose (f h); cause = λ h. c.cause (f h); struck = c.struck; fine = λ no_bad. c.fine (λ h. no_bad (g h)) }
+
+-- the number of a call that fails in one way alone
+pub number_from : (cant : Bool) (bad refused bad' : Type 0) (s : Schedule) (new : State) → (refused → ⊥) → (bad' → bad) → (bad → bad') → IsByNumber cant bad refused s new → IsByNumber cant bad' ⊥ s new
+number_from cant bad refused bad' s new never f g n = record {
+  number = λ _. n.number never;
+  fails = record { only = λ h none. n.fails.only (f h) none; each = λ is none _. g (n.fails.each is none never) };
+}
 
 pub some_there : (o : Option DiskFile) (f : DiskFile) → o ≡ Some f → IsSome o
 some_there o f e = subst (λ (x : Option DiskFile). IsSome x) (sym e) refl

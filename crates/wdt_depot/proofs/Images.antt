@@ -1,16 +1,16 @@
 -- What a crash may leave, call by call.
-use Rattle.std.proofs.Common.{◌≡◌, inl, inr, ℕ, ◌+◌, ◌<◌, ◌≤◌, List, [], ◌∷◌, length, take, Option, Some, None, Bool, true, false, refl, sym, ◌∙◌, ap, subst, arith}
+use Rattle.std.proofs.Common.{◌≡◌, inl, inr, ℕ, ◌+◌, ◌<◌, ◌≤◌, List, [], ◌∷◌, length, take, drop, Option, Some, None, Bool, true, false, refl, sym, ◌∙◌, ap, subst, arith}
 use Rattle.std.specs.Prelude.{slice_index, if◌then◌else◌, option_map, ◌||◌}
 use Rattle.std.specs.Str.{bytes_eq}
 use Rattle.std.proofs.lemmas.Bool.{cases_lt, or_parts}
 use Rattle.std.proofs.lemmas.Bool.Decides.{nat_tests}
-use Rattle.std.proofs.lemmas.List.{ext_get_or, length-take}
+use Rattle.std.proofs.lemmas.List.{ext_get_or, length-drop, length-take}
 use Rattle.std.proofs.lemmas.List.Folds.{list_any-append}
 use Rattle.std.proofs.lemmas.Slice.Eq.{bytes_eq-Decides}
 use Rattle.wdt_units.specs.Have.{PlainSpan, is_in}
-use Rattle.wdt_depot.specs.Disk.{AreBytes, Disk, DiskFile, HasImagesOf, IfFile, Image, IsFileImage, IsImage, IsOutside, IsSettled, IsSound, IsSoundDisk, MayLeave, clean, seen_of, sync_file, synced_at, with_file, write_file, wrote}
+use Rattle.wdt_depot.specs.Disk.{AreBytes, Disk, DiskFile, HasImagesOf, IfFile, Image, IsFileImage, IsImage, IsOutside, IsSettled, IsSound, IsSoundDisk, MayLeave, clean, seen_of, spliced, sync_file, synced_at, with_file, write_file, wrote}
 use Rattle.wdt_depot.specs.PickLaws.{if_file_more, image_of_each, seen_is_file_image, synced_is_file_image}
-use Rattle.wdt_depot.proofs.Writes.{before_offset, bytes_spliced, length-spliced, spliced_before, spliced_behind}
+use Rattle.wdt_depot.proofs.Writes.{bytes_spliced, length-spliced, spliced_before, spliced_behind, spliced_gap}
 
 -- the disk with another file at a path
 
@@ -146,39 +146,64 @@ with_own p d i h q = go (bytes_eq p q) refl (h q)
 pub synced_images : (p : List ℕ) (d : Disk) → IsSoundDisk d → HasImagesOf d (synced_at p d)
 synced_images p d s i h = with_own p d i (images_with_file p (option_map sync_file (d p)) (d p) d (λ found. left_before (d p) found (s p)) i h)
 
--- a write of a front of the bytes leaves what the whole write may leave
-part_outside : (k o n m : ℕ) → n ≤ m → IsOutside k (record { offset = o; count = m }) → IsOutside k (record { offset = o; count = n })
-part_outside k o n m h (inl g) = inl g
-part_outside k o n m h (inr g) = inr (omega (arith, h, g))
+-- a later disk with no other images: what all images have stays, and so on to a third disk
+pub images_keep : (P : Image → Type 0) (d e : Disk) → HasImagesOf d e → ((i : Image) → IsImage d i → P i) → (i : Image) → IsImage e i → P i
+images_keep P d e has all i image = all i (has i image)
 
-part_image : (o n : ℕ) (b i : List ℕ) (f : DiskFile) → IsFileImage (write_file o (take n b) f) i → IsFileImage (write_file o b f) i
+pub images_more : (d e f : Disk) → HasImagesOf d e → HasImagesOf e f → HasImagesOf d f
+images_more d e f one two i image = one i (two i image)
+
+-- a write of some of the bytes, in their place, leaves what the whole write may leave
+part_outside : (k o from n m : ℕ) → from + n ≤ m → IsOutside k (record { offset = o; count = m }) → IsOutside k (record { offset = o + from; count = n })
+part_outside k o from n m h (inl g) = inl (omega (arith, g))
+part_outside k o from n m h (inr g) = inr (omega (arith, h, g))
+
+part_image : (o from n : ℕ) (b i : List ℕ) (f : DiskFile) → from ≤ length b → IsFileImage (write_file (o + from) (take n (drop from b)) f) i → IsFileImage (write_file o b f) i
 unfolding write_file
-part_image o n b i f h = record {
-  no_shorter = subst (λ (l : List ℕ). length l ≤ length i) same_synced h.no_shorter;
-  no_longer = omega (arith, h.no_longer, sizes, part);
+part_image o from n b i f within h = record {
+  no_shorter = h.no_shorter;
+  no_longer = omega (arith, h.no_longer, sizes);
   fixed = λ k s. (let before = settled_before_write o b f k s in
-      let out = part_outside k o (length (take n b)) (length b) part before.1 in
-      h.fixed k (settled_after_write o (take n b) f k before.0 out) ∙ same_seen k before.1);
+      let out = part_outside k o from (length piece) (length b) part before.1 in
+      h.fixed k (settled_after_write (o + from) piece f k before.0 out) ∙ same_seen k before.1);
   are_bytes = h.are_bytes;
 }
   where
-    part : length (take n b) ≤ length b
-    part = omega (arith, length-take n b)
+    piece : List ℕ
+    piece = take n (drop from b)
 
-    same_synced : (write_file o (take n b) f).synced ≡ (write_file o b f).synced
-    same_synced = refl
+    part : from + length (take n (drop from b)) ≤ length b
+    part = omega (arith, within, length-take n (drop from b), length-drop from b)
 
-    sizes : length (write_file o (take n b) f).seen ≤ length (write_file o b f).seen
-    sizes = omega (arith, length-spliced f.seen o (take n b), length-spliced f.seen o b, part)
+    sizes : length (spliced f.seen (o + from) (take n (drop from b))) ≤ length (spliced f.seen o b)
+    sizes = omega (arith, length-spliced f.seen (o + from) (take n (drop from b)), length-spliced f.seen o b, part)
 
-    same_seen : (k : ℕ) → IsOutside k (record { offset = o; count = length b }) → slice_index (write_file o (take n b) f).seen k ≡ slice_index (write_file o b f).seen k
-    same_seen k (inl h) = before_offset f.seen o (take n b) k h ∙ sym (before_offset f.seen o b k h)
-    same_seen k (inr h) = spliced_behind f.seen o (take n b) k (omega (arith, h, part)) ∙ sym (spliced_behind f.seen o b k h)
+    same_seen : (k : ℕ) → IsOutside k (record { offset = o; count = length b }) → slice_index (spliced f.seen (o + from) (take n (drop from b))) k ≡ slice_index (spliced f.seen o b) k
+    same_seen k (inl h) = elim (cases_lt k (length f.seen)) [
+      | inl there ↦ spliced_before f.seen (o + from) (take n (drop from b)) k (omega (arith, h)) there ∙ sym (spliced_before f.seen o b k h there)
+      | inr past ↦ spliced_gap f.seen (o + from) (take n (drop from b)) k (omega (arith, h)) past ∙ sym (spliced_gap f.seen o b k h past)
+    ]
+    same_seen k (inr h) = spliced_behind f.seen (o + from) (take n (drop from b)) k (omega (arith, h, part)) ∙ sym (spliced_behind f.seen o b k h)
 
-part_left : (o n : ℕ) (b : List ℕ) (x : Option DiskFile) (found : Option (List ℕ)) → MayLeave (option_map (write_file o (take n b)) x) found → MayLeave (option_map (write_file o b) x) found
-part_left o n b None found h = h
-part_left o n b (Some f) None h = h
-part_left o n b (Some f) (Some i) h = part_image o n b i f h
+part_left : (o from n : ℕ) (b : List ℕ) → from ≤ length b → (x : Option DiskFile) (found : Option (List ℕ)) → MayLeave (option_map (write_file (o + from) (take n (drop from b))) x) found → MayLeave (option_map (write_file o b) x) found
+part_left o from n b within None found h = h
+part_left o from n b within (Some f) None h = h
+part_left o from n b within (Some f) (Some i) h = part_image o from n b i f within h
 
-pub part_images : (p : List ℕ) (o n : ℕ) (b : List ℕ) (d : Disk) → HasImagesOf (wrote p o b d) (wrote p o (take n b) d)
-part_images p o n b d = images_with_file p (option_map (write_file o (take n b)) (d p)) (option_map (write_file o b) (d p)) d (part_left o n b (d p))
+pub part_images : (p : List ℕ) (o from n : ℕ) (b : List ℕ) (d : Disk) → from ≤ length b → HasImagesOf (wrote p o b d) (wrote p (o + from) (take n (drop from b)) d)
+part_images p o from n b d within = images_with_file p (option_map (write_file (o + from) (take n (drop from b))) (d p)) (option_map (write_file o b) (d p)) d (part_left o from n b within (d p))
+
+-- a sync changes nothing that is read
+
+seen_synced : (x : Option DiskFile) → option_map (λ (f : DiskFile). f.seen) (option_map sync_file x) ≡ option_map (λ (f : DiskFile). f.seen) x
+unfolding clean
+seen_synced None = refl
+seen_synced (Some f) = refl
+
+pub synced_reads : (p : List ℕ) (d : Disk) (q : List ℕ) → seen_of (synced_at p d) q ≡ seen_of d q
+unfolding with_file
+synced_reads p d q = go (bytes_eq p q) refl
+  where
+    go : (b : Bool) → bytes_eq p q ≡ b → option_map (λ (f : DiskFile). f.seen) (if b then option_map sync_file (d p) else d q) ≡ seen_of d q
+    go true e = seen_synced (d p) ∙ ap (λ (r : List ℕ). seen_of d r) ((bytes_eq-Decides p q).0 e)
+    go false e = refl

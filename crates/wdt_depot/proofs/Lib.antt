@@ -1,5 +1,7 @@
+pub mod AtSpots
 pub mod Entering
 pub mod Exits
+pub mod ForCallers
 pub mod Images
 pub mod Paths
 pub mod Moments
@@ -9,6 +11,7 @@ pub mod Picks
 pub mod Places
 pub mod Programs
 pub mod Reopened
+pub mod Rewriting
 pub mod Slips
 pub mod Splices
 pub mod SpotLists

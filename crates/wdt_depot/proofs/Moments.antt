@@ -1,7 +1,8 @@
 -- Calls one after another.
-use Rattle.std.proofs.Common.{◌≡◌, List, [], ◌∷◌, ◌++◌, Option, Some, None, sym, ap, subst, ◌∙◌, append_assoc, append-nil, inl, inr}
+use Rattle.std.proofs.Common.{◌≡◌, ◌⊎◌, List, [], ◌∷◌, ◌++◌, Option, Some, None, Result, Ok, Err, refl, sym, ap, subst, ◌∙◌, append_assoc, append-nil, inl, inr}
+use Rattle.std.proofs.lemmas.Option.{same_Some}
 use Rattle.wdt_depot.specs.Disk.{Disk}
-use Rattle.wdt_depot.specs.Moments.{Holds, IfTold, OneStep, Run, Since, Told, moments}
+use Rattle.wdt_depot.specs.Moments.{Holds, IfTold, MayDo, OneStep, Run, Since, Told, moments}
 
 pub Holds-append : (P : Disk → Type 0) (ds es : List Disk) → Holds P ds → Holds P es → Holds P (ds ++ es)
 Holds-append P [] es h p = p
@@ -44,6 +45,54 @@ since_weaker P Q None None f s = tt
 since_weaker P Q None (Some u) f s = absurd s
 since_weaker P Q (Some t) None f s = absurd s
 since_weaker P Q (Some t) (Some u) f s = (s.0, s.1, Holds_weaker P Q s.0 f s.2)
+
+-- the last moment
+
+or_last : Option Disk → Disk → Option Disk
+or_last None x = Some x
+or_last (Some y) x = Some y
+
+last_of : List Disk → Option Disk
+last_of [] = None
+last_of (x ∷ xs) = or_last (last_of xs) x
+
+or_again : (o : Option Disk) (y w : Disk) → or_last (or_last o y) w ≡ or_last o y
+unfolding or_last
+or_again None y w = refl
+or_again (Some z) y w = refl
+
+last-skip : (ys : List Disk) (y : Disk) (ds : List Disk) → last_of (ys ++ y ∷ ds) ≡ last_of (y ∷ ds)
+unfolding last_of
+last-skip [] y ds = refl
+last-skip (w ∷ ys) y ds = ap (λ (o : Option Disk). or_last o w) (last-skip ys y ds) ∙ or_again (last_of ds) y w
+
+last_by : (P : Disk → Type 0) (o : Option Disk) (d x : Disk) → P d → ((y : Disk) → o ≡ Some y → P y) → or_last o d ≡ Some x → P x
+unfolding or_last
+last_by P None d x here later h = subst P (same_Some d x h) here
+last_by P (Some y) d x here later h = later x h
+
+last_holds : (P : Disk → Type 0) (ds : List Disk) → Holds P ds → (x : Disk) → last_of ds ≡ Some x → P x
+unfolding last_of
+last_holds P [] all x is = absurd (cc)
+last_holds P (d ∷ ds) all x is = last_by P (last_of ds) d x all.0 (λ y e. last_holds P ds all.1 y e) is
+
+last_is : (u : Told) → last_of (moments u) ≡ Some u.now
+unfolding last_of or_last
+last_is u = last-skip u.past u.now []
+
+-- what holds at the start and at each moment since holds at the last
+pub since_last : (P : Disk → Type 0) (a b : Option Told) → IfTold (λ t. P t.now) a → Since P a b → IfTold (λ t. P t.now) b
+since_last P None None here s = tt
+since_last P None (Some u) here s = absurd s
+since_last P (Some t) None here s = absurd s
+since_last P (Some t) (Some u) here s =
+    last_holds P (t.now ∷ s.0) (here, s.2) u.now
+    (sym (last-skip t.past t.now s.0) ∙ ap last_of (sym (append_assoc t.past (t.now ∷ []) s.0)) ∙ ap last_of (sym s.1) ∙ last_is u)
+
+-- a call that may do a thing did it or not
+pub may_either : {T E : Type 0} (f : Disk → Disk) (r : Result T E) (d e : Disk) → MayDo f r d e → (e ≡ d) ⊎ (e ≡ f d)
+may_either f (Ok x) d e h = inr h
+may_either f (Err x) d e h = h
 
 -- what a step makes
 pub step_weaker : (R S : Disk → Disk → Type 0) (a b : Option Told) → ((d e : Disk) → R d e → S d e) → OneStep R a b → OneStep S a b

@@ -3,7 +3,7 @@ use Rattle.std.proofs.Common.{◌≡◌, ℕ, zero, suc, ◌+◌, ◌<◌, ◌�
 use Rattle.std.specs.Prelude.{◌==◌, if◌then◌else◌}
 use Rattle.std.proofs.lemmas.List.{map-set, set-get_or, length-map, map-append, length-set, nil_from_length}
 use Rattle.std.proofs.lemmas.Bool.Decides.{nat_tests}
-use Rattle.wdt_depot.specs.declared.place.Place.{Place}
+use Rattle.wdt_depot.specs.declared.memory.place.Place.{Place}
 use Rattle.wdt_depot.specs.Changes.{change_view}
 use Rattle.wdt_depot.specs.Slots.{IsWithin, Slot, after_write, change_of, no_slot, owed_of, owed_one, slot_at}
 use Rattle.wdt_depot.specs.View.{slot_view}

@@ -3,8 +3,8 @@ use Rattle.std.proofs.Common.{◌≡◌, ℕ, ◌<◌, List, length, Option, Som
 use Rattle.std.specs.Prelude.{◌&&◌, ◌%◌, ◌^◌, ◌==◌, if◌then◌else◌, is_none, map, nat_lt, option_map}
 use Rattle.std.specs.Str.{bytes_eq}
 use Rattle.std.proofs.lemmas.Slice.Eq.{bytes_eq-Decides}
-use Rattle.wdt_depot.specs.declared.place.Place.{Place}
-use Rattle.wdt_depot.specs.declared.store.Store.{Store}
+use Rattle.wdt_depot.specs.declared.memory.place.Place.{Place}
+use Rattle.wdt_depot.specs.declared.memory.store.Store.{Store}
 use Rattle.wdt_depot.specs.Disk.{Disk, DiskFile, place_file, placed, with_file, wrote}
 use Rattle.wdt_depot.specs.Memory.{told_in}
 use Rattle.wdt_depot.specs.Programs.{torn_write, when_odd}

@@ -2,9 +2,9 @@
 use Rattle.std.proofs.Common.{◌≡◌, ℕ, ◌<◌, ◌++◌, List, [], ◌∷◌, Option, Some, None, false, length, map, set, get_or, take, sym, ◌∙◌, ap, refl}
 use Rattle.std.specs.Str.{bytes_eq}
 use Rattle.std.proofs.lemmas.List.{map-append}
-use Rattle.wdt_depot.specs.declared.place.Place.{Place}
-use Rattle.wdt_depot.specs.declared.taken.Taken.{Taken}
-use Rattle.wdt_depot.specs.declared.taken.Taken.TheVariants.{Made, Placed, Wrote}
+use Rattle.wdt_depot.specs.declared.memory.place.Place.{Place}
+use Rattle.wdt_depot.specs.declared.memory.taken.Taken.{Taken}
+use Rattle.wdt_depot.specs.declared.memory.taken.Taken.TheVariants.{Made, Placed, Wrote}
 use Rattle.wdt_depot.specs.Disk.{clean, made, placed, synced_at, wrote}
 use Rattle.wdt_depot.specs.Moments.{Told}
 use Rattle.wdt_depot.specs.Slots.{Change, IsOnce, IsWithin, Slot, Step, after_reopen, after_sync, after_write, disk_of, file_of, made_slot, next_of, placed_slot, reopened_slot, slot_at, synced_slot, told_of, with_slot, wrote_slot}

@@ -1,5 +1,5 @@
 -- A write that isn't synced, as data.
-use Rattle.wdt_depot.specs.declared.place.Overwrite.{Overwrite}
+use Rattle.wdt_depot.specs.declared.memory.place.Overwrite.{Overwrite}
 use Rattle.wdt_depot.specs.Slots.{Change}
 
 abbrev pub change_view : Overwrite → Change

@@ -10,6 +10,7 @@ pub mod Picks
 pub mod Plains
 pub mod Programs
 pub mod Reopening
+pub mod Rewritten
 pub mod Slots
 pub mod Spots
 pub mod State

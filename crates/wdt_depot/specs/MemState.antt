@@ -2,8 +2,8 @@
 use Rattle.std.proofs.Common.{◌≡◌, ℕ, List, [], ◌∷◌, ◌<◌, length, map, Option, Some, None, Bool, true, false, refl, arith, zero, suc}
 use Rattle.std.specs.Prelude.{IsSome, is_some, option_map, if◌then◌else◌, ◌&&◌, ◌==◌}
 use Rattle.wdt_depot.specs.declared.memory.MemDepot.{MemDepot}
-use Rattle.wdt_depot.specs.declared.place.Place.{Place}
-use Rattle.wdt_depot.specs.declared.store.Store.{Store}
+use Rattle.wdt_depot.specs.declared.memory.place.Place.{Place}
+use Rattle.wdt_depot.specs.declared.memory.store.Store.{Store}
 use Rattle.wdt_depot.specs.Disk.{Disk, IfFile, IsSound, IsSoundDisk}
 use Rattle.wdt_depot.specs.Health.{state_of}
 use Rattle.wdt_depot.specs.Memory.{told_in}
@@ -61,6 +61,6 @@ pub stand_in : (m : MemDepot) → SpotsStand (mem_state m)
 unfolding told_of disk_of
 stand_in m spot some = some_file m.store (path_or (path_of spot (map entered_view m.spots.items))) (index_of m.store.index (path_or (path_of spot (map entered_view m.spots.items)))) (stands (index_of m.store.index) (map entered_view m.spots.items) spot m.placed some)
 
--- how it begins: nothing happened yet
-abbrev pub fresh_state : Disk → State
-fresh_state d = record { told = Some (record { past = []; now = d }); stop = record { armed = None; struck = None }; spots = []; faults = 0; own = 0; own_then = 0; slips = 0 }
+-- how it begins: nothing happened yet, and the calls of these numbers fail
+abbrev pub fresh_state : Disk → List ℕ → State
+fresh_state d fails = record { told = Some (record { past = []; now = d }); stop = record { armed = None; struck = None }; spots = []; faults = 0; own = 0; own_then = 0; slips = 0; schedule = Some (record { fails = fails; calls = 0 }) }

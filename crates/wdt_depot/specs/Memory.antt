@@ -1,7 +1,7 @@
 -- What a store of files in memory tells.
 use Rattle.std.specs.Prelude.{◌≡◌, ◌⊎◌, ℕ, false, List, map, Option, IsSome}
 use Rattle.std.specs.Str.{bytes_eq}
-use Rattle.wdt_depot.specs.declared.store.Store.{Store}
+use Rattle.wdt_depot.specs.declared.memory.store.Store.{Store}
 use Rattle.wdt_depot.specs.Disk.{synced_at}
 use Rattle.wdt_depot.specs.Moments.{Told}
 use Rattle.wdt_depot.specs.Slots.{Shelf, next_of, told_of}

@@ -23,4 +23,4 @@ armed calls pick s = record s { stop = record { armed = Some (calls, pick); stru
 -- the state after a reopening, but for what is told: no spot is entered, a stop that struck is over and
 -- one that hasn't stays armed, and the count of own faults is noted
 abbrev pub reopened : Option Told → State → State
-reopened told s = record { told = told; stop = record { armed = s.stop.armed; struck = None }; spots = []; faults = s.faults; own = s.own; own_then = s.own; slips = s.slips }
+reopened told s = record { told = told; stop = record { armed = s.stop.armed; struck = None }; spots = []; faults = s.faults; own = s.own; own_then = s.own; slips = s.slips; schedule = s.schedule }

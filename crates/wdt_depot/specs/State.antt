@@ -1,13 +1,14 @@
 -- What contracts see of a depot.
-use Rattle.std.specs.Prelude.{◌≡◌, ◌⊎◌, ℕ, ◌+◌, ◌-◌, ◌≤◌, ◌^◌, nat_lt, ◌&&◌, ◌==◌, if◌then◌else◌, Bool, true, false, is_none, List, [], ◌∷◌, length, take, drop, Option, Some, None, IsSome, Result, Ok, Err, IsErrOf}
+use Rattle.std.specs.Prelude.{◌≡◌, ◌⊎◌, ℕ, ◌+◌, ◌-◌, ◌≤◌, ◌^◌, nat_lt, ◌&&◌, ◌||◌, ◌==◌, if◌then◌else◌, Bool, true, false, is_none, List, [], ◌∷◌, length, take, drop, Option, Some, None, IsSome, Result, Ok, Err, IsErrOf}
 use Rattle.std.specs.List.{list_any}
 use Rattle.std.specs.Str.{bytes_eq}
 use Rattle.wdt_units.specs.Counts.{Rises}
+use Rattle.wdt_units.specs.Schedule.{Schedule, IfScheduled, is_due, numbered}
 use Rattle.wdt_units.specs.declared.numbers.Spot.{Spot}
 use Rattle.wdt_depot.specs.Disk.{Disk, DiskFile, IfFile}
 use Rattle.wdt_depot.specs.Moments.{Told, IfTold}
 use Rattle.wdt_depot.specs.declared.failure.DepotFail.{DepotFail}
-use Rattle.wdt_depot.specs.declared.failure.DepotFail.TheVariants.{NoMemory}
+use Rattle.wdt_depot.specs.declared.failure.DepotFail.TheVariants.{Failed, NoMemory}
 
 -- a stop: armed, with the changing calls up to it and its pick, or struck, with its pick
 pub record Stop : Type 0 where
@@ -15,7 +16,8 @@ pub record Stop : Type 0 where
   pub struck : Option ℕ
 
 -- the moments where they are told, the stop, the entered spots with their paths, the counts of faults
--- and of own faults, the count of own faults at the last reopening, and the count of slips
+-- and of own faults, the count of own faults at the last reopening, the count of slips, and which
+-- changing calls fail by themselves, where that is told
 pub record State : Type 0 where
   pub told : Option Told
   pub stop : Stop
@@ -24,6 +26,7 @@ pub record State : Type 0 where
   pub own : ℕ
   pub own_then : ℕ
   pub slips : ℕ
+  pub schedule : Option Schedule
 
 -- spots
 
@@ -101,10 +104,11 @@ IsKept result old new = IsErrOf result NoMemory → new ≡ old
 abbrev pub IsCounted : {T : Type 0} → Result T DepotFail → State → State → Type 0
 IsCounted result old new = (IsErrOf result NoMemory → ⊥) → new.stop ≡ counted old.stop
 
--- a call that looks leaves the disk and the stop
+-- a call that looks leaves the disk and the stop, and has no number
 pub record OnlyLooks (old new : State) : Type 0 where
   pub told : new.told ≡ old.told
   pub stop : new.stop ≡ old.stop
+  pub schedule : new.schedule ≡ old.schedule
 
 -- The counts after a call that failed or didn't: no count falls. A failed call counts a fault, and an
 -- own fault unless a stop struck, before it or in it. A stop makes no own fault, and a call that
@@ -147,3 +151,27 @@ is_far path offset count d = is_past_end offset count && nat_lt (2 ^ 40) offset 
 -- the same where the disk is told, the slip being judged on the disk before the call
 abbrev pub SlipsWhere : {T : Type 0} → (Disk → Bool) → Result T DepotFail → Type 0 → State → State → Type 0
 SlipsWhere test result failed old new = IfTold (λ t. CountsSlip (test t.now) result failed old new) old.told
+
+-- what fails by itself, where that is told
+
+-- A call that no stop struck, and that wasn't refused for memory, fails exactly where it is due to.
+pub record FailsWhere (due : Bool) (failed refused : Type 0) (new : State) : Type 0 where
+  pub only : failed → new.stop.struck ≡ None → due ≡ true
+  pub each : due ≡ true → new.stop.struck ≡ None → (refused → ⊥) → failed
+
+-- a call that looks fails only where it can't be done, judged on the disk before the call
+abbrev pub OnlyWhere : {T : Type 0} → (Disk → Bool) → Result T DepotFail → State → State → Type 0
+OnlyWhere cant result old new = IfScheduled (λ s. IfTold (λ t. FailsWhere (cant t.now) (IsErrOf result Failed) (IsErrOf result NoMemory) new) old.told) old.schedule
+
+-- A changing call has a number, behind a stop too, unless it was refused for memory. It fails where it
+-- can't be done, and where its number is one of those that fail.
+pub record IsByNumber (cant : Bool) (failed refused : Type 0) (s : Schedule) (new : State) : Type 0 where
+  pub number : (refused → ⊥) → new.schedule ≡ Some (numbered s)
+  pub fails : FailsWhere (cant || is_due s) failed refused new
+
+-- the same where it is told, judged on the disk before the call
+abbrev pub NumberedBy : (Disk → Bool) → Type 0 → Type 0 → State → State → Type 0
+NumberedBy cant failed refused old new = IfScheduled (λ s. IfTold (λ t. IsByNumber (cant t.now) failed refused s new) old.told) old.schedule
+
+abbrev pub ByNumber : {T : Type 0} → (Disk → Bool) → Result T DepotFail → State → State → Type 0
+ByNumber cant result old new = NumberedBy cant (IsErrOf result Failed) (IsErrOf result NoMemory) old new

@@ -2,9 +2,9 @@
 use Rattle.std.specs.Prelude.{ℕ, List, Option, String, map}
 use Rattle.std.specs.BTreeMap.{BTreeMap, get_by_text}
 use Rattle.std.specs.Global.{Global}
-use Rattle.wdt_depot.specs.declared.place.Place.{Place}
-use Rattle.wdt_depot.specs.declared.taken.Taken.{Taken}
-use Rattle.wdt_depot.specs.declared.taken.Taken.TheVariants.{Wrote, Synced, Made, Placed, Reopened}
+use Rattle.wdt_depot.specs.declared.memory.place.Place.{Place}
+use Rattle.wdt_depot.specs.declared.memory.taken.Taken.{Taken}
+use Rattle.wdt_depot.specs.declared.memory.taken.Taken.TheVariants.{Wrote, Synced, Made, Placed, Reopened}
 use Rattle.wdt_depot.specs.Changes.{change_view}
 use Rattle.wdt_depot.specs.Slots.{Slot, Step, wrote_slot, synced_slot, made_slot, placed_slot, reopened_slot}
 

@@ -1,9 +1,9 @@
 //! The calls of a depot, and what they leave on a disk.
-ghost use Rattle.std.specs.Prelude.{◌≡◌, ◌+◌, ◌<◌, ◌^◌, ◌++◌, length, IfOk, IfSome, IsSome, None, OnOk, OnErr, IsErr, IsErrOf, MatchOption, is_ok};
+ghost use Rattle.std.specs.Prelude.{◌≡◌, ◌+◌, ◌<◌, ◌^◌, ◌++◌, false, length, IfOk, IfSome, IsSome, None, OnOk, OnErr, IsErr, IsErrOf, MatchOption, is_ok};
 ghost use Rattle.wdt_depot.specs.Disk.{IsSoundDisk, made, wrote, synced_at, placed};
 ghost use Rattle.wdt_depot.specs.Moments.{IfTold, OneStep, MayDo};
 ghost use Rattle.wdt_depot.specs.Programs.{Calls, IsQuiet, Ran, drive_of, looking, run_make, run_write, run_sync, run_place};
-ghost use Rattle.wdt_depot.specs.State.{State, Counts, IfFileAt, IsCounted, IsEntered, IsKept, NotEntered, OnlyLooks, Reads, SlipsWhere, SpotsStand, at_spot, counted, entered, is_far, lacks, needed, path_of, without};
+ghost use Rattle.wdt_depot.specs.State.{State, ByNumber, Counts, IfFileAt, IsCounted, IsEntered, IsKept, NotEntered, NumberedBy, OnlyLooks, OnlyWhere, Reads, SlipsWhere, SpotsStand, at_spot, counted, entered, is_far, is_past_end, lacks, needed, path_of, without};
 
 use crate::failure::DepotFail;
 use wdt_units::{Failed, Name, Spot};
@@ -16,8 +16,8 @@ pub const MAX_END: u64 = 2_199_023_255_552;
 /// A call on a spot is for one that is entered. A depot that is handed to another crate has no spot
 /// entered, and is handed back so.
 pub trait Depot {
-    /// What is told of the disk, the stop, the entered spots and the counts. The counts stop at 2^64
-    /// less 1.
+    /// What is told of the disk, the stop, the entered spots, the counts, and which changing calls fail
+    /// by themselves. The counts stop at 2^64 less 1.
     ghost state: { Self → State };
 
     /// An empty file stands at the path, in place of a file that stood there; its folders are made.
@@ -30,7 +30,8 @@ pub trait Depot {
         ensures up { OnOk result ((state self.new).stop.struck ≡ None) }
         ensures spots { (state self.new).spots ≡ (state self.old).spots }
         ensures counts { Counts (IsErrOf result DepotFail.Failed) (state self.old) (state self.new) }
-        ensures slips { (state self.new).slips ≡ (state self.old).slips };
+        ensures slips { (state self.new).slips ≡ (state self.old).slips }
+        ensures number { ByNumber (λ d. false) result (state self.old) (state self.new) };
 
     /// Enters the file at the path: None where no file is there. Fewer than 32 spots are entered.
     fn enter(&mut self, path: &Name) -> Result<Option<Spot>, DepotFail>
@@ -43,7 +44,8 @@ pub trait Depot {
         ensures memory { IsKept result (state self.old) (state self.new) }
         ensures up { OnOk result ((state self.new).stop.struck ≡ None) }
         ensures counts { Counts (IsErrOf result DepotFail.Failed) (state self.old) (state self.new) }
-        ensures slips { (state self.new).slips ≡ (state self.old).slips };
+        ensures slips { (state self.new).slips ≡ (state self.old).slips }
+        ensures fails { OnlyWhere (λ d. false) result (state self.old) (state self.new) };
 
     /// Enters the file at the path, which has to be there: where none is, the call counts a fault and
     /// a slip and fails. Fewer than 32 spots are entered.
@@ -57,7 +59,8 @@ pub trait Depot {
         ensures memory { IsKept result (state self.old) (state self.new) }
         ensures up { OnOk result ((state self.new).stop.struck ≡ None) }
         ensures counts { Counts (IsErrOf result DepotFail.Failed) (state self.old) (state self.new) }
-        ensures slips { SlipsWhere (lacks path.now) result (IsErrOf result DepotFail.Failed) (state self.old) (state self.new) };
+        ensures slips { SlipsWhere (lacks path.now) result (IsErrOf result DepotFail.Failed) (state self.old) (state self.new) }
+        ensures fails { OnlyWhere (lacks path.now) result (state self.old) (state self.new) };
 
     /// Leaves a spot. It can't fail.
     fn leave(&mut self, spot: Spot)
@@ -74,7 +77,8 @@ pub trait Depot {
         ensures up { OnOk result ((state self.new).stop.struck ≡ None) }
         ensures spots { (state self.new).spots ≡ (state self.old).spots }
         ensures counts { Counts (IsErrOf result DepotFail.Failed) (state self.old) (state self.new) }
-        ensures slips { (state self.new).slips ≡ (state self.old).slips };
+        ensures slips { (state self.new).slips ≡ (state self.old).slips }
+        ensures fails { OnlyWhere (λ d. false) result (state self.old) (state self.new) };
 
     /// Reads as many bytes as the file has from the offset on, up to the slice's length, into the
     /// front of the slice, and answers how many.
@@ -87,7 +91,8 @@ pub trait Depot {
         ensures up { OnOk result ((state self.new).stop.struck ≡ None) }
         ensures spots { (state self.new).spots ≡ (state self.old).spots }
         ensures counts { Counts (IsErrOf result DepotFail.Failed) (state self.old) (state self.new) }
-        ensures slips { (state self.new).slips ≡ (state self.old).slips };
+        ensures slips { (state self.new).slips ≡ (state self.old).slips }
+        ensures fails { OnlyWhere (λ d. false) result (state self.old) (state self.new) };
 
     /// Writes the bytes at the offset; a gap before them is filled with 0. Until a sync, a crash may
     /// leave any bytes there. A write that would end above `MAX_END` counts a fault, changes nothing
@@ -102,7 +107,8 @@ pub trait Depot {
         ensures up { OnOk result ((state self.new).stop.struck ≡ None) }
         ensures spots { (state self.new).spots ≡ (state self.old).spots }
         ensures counts { Counts (IsErrOf result DepotFail.Failed) (state self.old) (state self.new) }
-        ensures slips { SlipsWhere (is_far (at_spot spot.0 (state self.old)) offset (length bytes.now)) result (IsErrOf result DepotFail.Failed) (state self.old) (state self.new) };
+        ensures slips { SlipsWhere (is_far (at_spot spot.0 (state self.old)) offset (length bytes.now)) result (IsErrOf result DepotFail.Failed) (state self.old) (state self.new) }
+        ensures number { ByNumber (λ d. is_past_end offset (length bytes.now)) result (state self.old) (state self.new) };
 
     /// After it a crash leaves what is read. It takes no memory. One that fails leaves the disk as it
     /// was: what was pending still is.
@@ -115,7 +121,8 @@ pub trait Depot {
         ensures up { OnOk result ((state self.new).stop.struck ≡ None) }
         ensures spots { (state self.new).spots ≡ (state self.old).spots }
         ensures counts { Counts (IsErr result) (state self.old) (state self.new) }
-        ensures slips { (state self.new).slips ≡ (state self.old).slips };
+        ensures slips { (state self.new).slips ≡ (state self.old).slips }
+        ensures number { NumberedBy (λ d. false) (IsErr result) ⊥ (state self.old) (state self.new) };
 
     /// The file at `from` stands at `to` alone. Neither path is entered. A call that fails did this or
     /// nothing. Where no file is at `from` it counts a fault and a slip, changes nothing and fails.
@@ -130,7 +137,8 @@ pub trait Depot {
         ensures up { OnOk result ((state self.new).stop.struck ≡ None) }
         ensures spots { (state self.new).spots ≡ (state self.old).spots }
         ensures counts { Counts (IsErrOf result DepotFail.Failed) (state self.old) (state self.new) }
-        ensures slips { SlipsWhere (lacks from.now) result (IsErrOf result DepotFail.Failed) (state self.old) (state self.new) };
+        ensures slips { SlipsWhere (lacks from.now) result (IsErrOf result DepotFail.Failed) (state self.old) (state self.new) }
+        ensures number { ByNumber (lacks from.now) result (state self.old) (state self.new) };
 
     /// What is told keeps the disk model, so that what is read is an image.
     ghost sound: { (depot : Self) → IfTold (λ t. IsSoundDisk t.now) (state depot).told };

@@ -12,27 +12,14 @@
 //! its disk also counts slips: what no caller may ask for. So no caller can make a depot's faults.
 #![tactic(auto)]
 
-mod bytes;
-mod calls;
-mod changes;
-mod content;
 mod crash;
 mod depot;
 mod failure;
 mod health;
-mod index;
-mod keeping;
 mod laws;
-mod making;
 mod memory;
-mod picking;
-mod place;
 mod reading;
-mod reopening;
 mod spots;
-mod stops;
-mod store;
-mod taken;
 #[cfg(test)]
 mod tests;
 
@@ -40,6 +27,11 @@ pub use crash::Crash;
 pub use depot::{Depot, MAX_END};
 pub use failure::DepotFail;
 pub use health::Health;
+pub use laws::{
+    a_changing_call_is_done_or_not, a_made_file_changes_no_other, a_part_of_a_write,
+    a_sync_leaves_what_is_read, a_write_stays_in_its_range, what_all_images_have_stays,
+    what_holds_since_holds_at_the_last, what_is_read_may_be_left,
+};
 pub use memory::MemDepot;
 pub use reading::read_whole;
 pub use spots::{Entered, drop_spot, path_at, push_spot};

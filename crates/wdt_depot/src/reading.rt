@@ -1,7 +1,7 @@
 //! Reading a whole file.
-ghost use Rattle.std.specs.Prelude.{◌≡◌, IfOk, IsErrOf, None, OnOk};
+ghost use Rattle.std.specs.Prelude.{◌≡◌, false, IfOk, IsErrOf, None, OnOk};
 ghost use Rattle.wdt_depot.specs.Programs.{Ran, looking};
-ghost use Rattle.wdt_depot.specs.State.{Counts, IfFileAt, IsEntered, IsKept, OnlyLooks, at_spot};
+ghost use Rattle.wdt_depot.specs.State.{Counts, IfFileAt, IsEntered, IsKept, OnlyLooks, OnlyWhere, at_spot};
 
 use crate::depot::Depot;
 use crate::failure::DepotFail;
@@ -21,6 +21,7 @@ pub fn read_whole<D: Depot>(alloc: Global, depot: &mut D, spot: Spot) -> Result<
     ensures spots { (D.state depot.new).spots ≡ (D.state depot.old).spots }
     ensures counts { Counts (IsErrOf result DepotFail.Failed) (D.state depot.old) (D.state depot.new) }
     ensures slips { (D.state depot.new).slips ≡ (D.state depot.old).slips }
+    ensures fails { OnlyWhere (λ d. false) result (D.state depot.old) (D.state depot.new) }
 {
     let length = depot.length(spot)?;
     let mut bytes = Vec::new(alloc);

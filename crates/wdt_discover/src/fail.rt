@@ -18,7 +18,7 @@ pub enum PlanFail {
         /// What the tree says of it, or None where the tree lacks it.
         found: Option<(u64, u64)>,
     },
-    /// There would be more than 1,048,576 blocks.
+    /// There would be more than `MAX_BLOCKS` blocks.
     #[error("too many blocks {count}")]
     TooManyBlocks {
         count: u64,

@@ -15,4 +15,4 @@ mod tests;
 
 pub use fail::PlanFail;
 pub use laws::the_least_is_refused;
-pub use planning::{MAX_BLOCKS, plan};
+pub use planning::plan;

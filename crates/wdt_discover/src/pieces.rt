@@ -4,12 +4,12 @@ ghost use Rattle.wdt_ranges.specs.Spans.{plain_span, are_apart};
 ghost use Rattle.wdt_rest.specs.RestOf.{pieces_in, pieces_of, gap_pieces};
 
 use wdt_ranges::Span;
-use wdt_units::{Block, NoMemory};
+use wdt_units::{Block, MAX_FILE_SIZE, NoMemory};
 
 // How many blocks a gap has.
 fn pieces_in(gap: Span, block: u32) -> u64
     requires some { 0 < block }
-    requires end { gap.offset + gap.length ≤ 2 ^ 40 }
+    requires end { gap.offset + gap.length ≤ MAX_FILE_SIZE }
     ensures count { result ≡ pieces_in block (plain_span gap) }
     ensures few { result ≤ gap.length }
 {
@@ -21,7 +21,7 @@ pub fn count_pieces(gaps: &[Span], block: u32) -> u64
     requires some { 0 < block }
     requires apart { IsTrue (are_apart (map plain_span gaps.now)) }
     ensures count { (file : ℕ) → result ≡ length (gap_pieces block file (map plain_span gaps.now)) }
-    ensures few { result ≤ 2 ^ 40 }
+    ensures few { result ≤ MAX_FILE_SIZE }
 {
     let mut count = 0;
     for gap in gaps {
@@ -50,7 +50,7 @@ pub fn push_pieces(
 // Appends the blocks of a gap, from its start in whole blocks and a shorter last one.
 fn push_gap(gap: Span, file: u32, block: u32, blocks: &mut Vec<Block>) -> Result<(), NoMemory>
     requires some { 0 < block }
-    requires end { gap.offset + gap.length ≤ 2 ^ 40 }
+    requires end { gap.offset + gap.length ≤ MAX_FILE_SIZE }
     ensures { IfOk result (λ _. blocks.new.items ≡ blocks.old.items ++ pieces_of block file (plain_span gap)) }
 {
     for k in 0..pieces_in(gap, block) {
@@ -72,8 +72,6 @@ fn push_gap(gap: Span, file: u32, block: u32, blocks: &mut Vec<Block>) -> Result
 pub fn push(block: Block, blocks: &mut Vec<Block>) -> Result<(), NoMemory>
     ensures { IfOk result (λ _. blocks.new.items ≡ blocks.old.items ++ block ∷ []) }
 {
-    match blocks.push(block) {
-        Ok(()) => Ok(()),
-        Err(_) => Err(NoMemory),
-    }
+    blocks.push(block)?;
+    Ok(())
 }

@@ -13,10 +13,7 @@ use std::alloc::Global;
 use wdt_ranges::Have;
 use wdt_rest::the_rest_as_a_list;
 use wdt_tree::Manifest;
-use wdt_units::Block;
-
-/// The greatest number of blocks of a plan.
-pub const MAX_BLOCKS: u64 = 1_048_576;
+use wdt_units::{Block, MAX_BLOCKS};
 
 /// The blocks that a destination still lacks of a tree, where a whole block has `block` bytes.
 /// Unless memory runs out there is no plan exactly where `refusal` of `specs/Plan` names one: the least
@@ -31,7 +28,7 @@ pub fn plan(
     requires block { 1 ≤ block }
     ensures rest { IfOk result (λ blocks. IsRest manifest.now have.now block blocks.items) }
     ensures list { IfOk result (λ blocks. blocks.items ≡ rest_of manifest.now have.now block) }
-    ensures few { IfOk result (λ blocks. length blocks.items ≤ 1048576) }
+    ensures few { IfOk result (λ blocks. length blocks.items ≤ MAX_BLOCKS) }
     ensures accepted { OnOk result (refusal manifest.now have.now block ≡ None) }
     ensures refused { IfErr result (λ e. e ≢ OutOfMemory → refusal manifest.now have.now block ≡ Some e) }
 {
@@ -39,7 +36,7 @@ pub fn plan(
     check_files(manifest, files)?;
     // The count comes first, so a list that is too long is never made.
     let count = count_rest(alloc, manifest, files, block)?;
-    if count > MAX_BLOCKS {
+    if count > u64::from(MAX_BLOCKS) {
         return Err(PlanFail::TooManyBlocks { count });
     }
     // The law of `wdt_rest`: the list is the rest.

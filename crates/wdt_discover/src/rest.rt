@@ -10,7 +10,7 @@ use crate::pieces::{count_pieces, push, push_pieces};
 use std::alloc::Global;
 use wdt_ranges::{FileHave, Ranges, Span};
 use wdt_tree::{Entry, Manifest};
-use wdt_units::{Block, Name, NoMemory};
+use wdt_units::{Block, MAX_FILE_SIZE, Name, NoMemory};
 
 // How many blocks the rest has.
 pub fn count_rest(
@@ -51,10 +51,10 @@ pub fn list_rest(
 // How many blocks of a file the rest has.
 fn count_file(alloc: Global, entry: &Entry, files: &[FileHave], block: u32) -> Result<u64, NoMemory>
     requires order { IsTrue (is_in_order (map have_file files.now)) }
-    requires size { entry.now.size ≤ 2 ^ 40 }
+    requires size { entry.now.size ≤ MAX_FILE_SIZE }
     requires some { 0 < block }
     ensures count { IfOk result (λ count. (file : ℕ) → count ≡ length (file_rest (map have_file files.now) block file entry.now)) }
-    ensures few { IfOk result (λ count. count ≤ 2 ^ 40) }
+    ensures few { IfOk result (λ count. count ≤ MAX_FILE_SIZE) }
 {
     if is_new_empty(entry, files) {
         return Ok(1);
@@ -73,7 +73,7 @@ fn push_file(
     blocks: &mut Vec<Block>,
 ) -> Result<(), NoMemory>
     requires order { IsTrue (is_in_order (map have_file files.now)) }
-    requires size { entry.now.size ≤ 2 ^ 40 }
+    requires size { entry.now.size ≤ MAX_FILE_SIZE }
     requires some { 0 < block }
     ensures { IfOk result (λ _. blocks.new.items ≡ blocks.old.items ++ file_rest (map have_file files.now) block file entry.now) }
 {
@@ -100,7 +100,7 @@ fn is_new_empty(entry: &Entry, files: &[FileHave]) -> bool
 // The positions of a file that aren't covered.
 fn gaps_in(alloc: Global, entry: &Entry, files: &[FileHave]) -> Result<Vec<Span>, NoMemory>
     requires order { IsTrue (is_in_order (map have_file files.now)) }
-    requires size { entry.now.size ≤ 2 ^ 40 }
+    requires size { entry.now.size ≤ MAX_FILE_SIZE }
     ensures gaps { IfOk result (λ gaps. map plain_span gaps.items ≡ gaps_in (map have_file files.now) entry.now) }
     ensures apart { IfOk result (λ gaps. IsTrue (are_apart (map plain_span gaps.items))) }
 {

@@ -31,8 +31,8 @@ fn check_file(manifest: &Manifest, file: &FileHave) -> Result<(), PlanFail>
     ensures other { IfErr result (λ e. e ≢ OutOfMemory → IsTrue (not (fits manifest.now (have_file file.now)))) }
     ensures refused { IfErr result (λ e. e ≢ OutOfMemory → e ≡ stale_of manifest.now (have_file file.now)) }
 {
-    // Nothing is read: where the spans are handed out, it is said that they are a set.
-    let _ = file.spans.spans();
+    // Nothing is read: where the spans are counted, it is said that they are a set.
+    let _ = file.spans.count();
     let found = found_in(manifest, &file.path);
     if has_found(found, file) {
         return Ok(());

@@ -1,2 +1,3 @@
 pub mod FolderState
+pub mod SourceFaults
 pub mod Untold

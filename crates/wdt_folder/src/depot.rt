@@ -16,9 +16,14 @@ use wdt_units::{Failed, Name, Spot};
 /// Files below a folder, as a depot. It tells nothing of what it holds.
 ///
 /// The folders of a file are made with the file, and the root too. A link, a folder or a pipe at a
-/// file's path is a fault, but `make` removes a link that stands there, and leaves what it leads to.
-/// Folders on the way to a file may be links. A file that was made is found again after a crash once
-/// `.wlog` or `.wlog.new` was synced after it, or any file put in place.
+/// file's path is a fault, and so is a link on the way to it. But `make` unlinks a file or a link that
+/// stands at its path, so what the link leads to and the file's other names stay as they are. A file
+/// that was made is found again after a crash once `.wlog` or `.wlog.new` was synced after it, or any
+/// file put in place.
+///
+/// Once a sync has failed, each later changing call fails until `reopen`. The first sync of a log that
+/// was there before puts a copy of it in its place, which is made at `.wlog.new`: what is read of it
+/// might not be on the disk.
 ///
 /// The files that were used last stay open, so nobody else may change the folder meanwhile.
 #[derive(Drop)]
@@ -100,10 +105,19 @@ where
             }
             Err(Trouble::NoMemory) => Err(DepotFail::NoMemory),
             Err(Trouble::Fault(fault)) => {
-                self.fault = Some(fault);
+                self.note(fault);
                 self.health.count();
                 Err(self.health.own_fault(false))
             }
+        }
+    }
+
+    // Keeps the words of a fault that has some.
+    fn note(&mut self, fault: Option<Fault>)
+        ensures { folder_state self.new ≡ folder_state self.old }
+    {
+        if fault.is_some() {
+            self.fault = fault;
         }
     }
 
@@ -131,7 +145,7 @@ where
         match trouble {
             Trouble::NoMemory => Err(DepotFail::NoMemory),
             Trouble::Fault(fault) => {
-                self.fault = Some(fault);
+                self.note(fault);
                 Err(self.health.own_fault(false))
             }
         }
@@ -160,7 +174,7 @@ where
         if self.is_barred() {
             return self.bar();
         }
-        let done = self.folder.make(path, &self.spots);
+        let done = self.folder.make(path);
         self.settle(done)
     }
 
@@ -168,10 +182,13 @@ where
         if self.health.is_down() {
             return self.down();
         }
-        match self.folder.look(path, &self.spots) {
+        match self.folder.look(path) {
             Ok(None) => Ok(None),
-            Ok(Some(_)) => match push_spot(&mut self.spots, path) {
-                Ok(spot) => Ok(Some(spot)),
+            Ok(Some(at)) => match push_spot(&mut self.spots, path) {
+                Ok(spot) => {
+                    self.folder.enter(spot, at);
+                    Ok(Some(spot))
+                }
                 Err(_) => Err(DepotFail::NoMemory),
             },
             Err(trouble) => self.miss(trouble),
@@ -182,9 +199,12 @@ where
         if self.health.is_down() {
             return self.down();
         }
-        match self.folder.open(path, &self.spots) {
-            Ok(_) => match push_spot(&mut self.spots, path) {
-                Ok(spot) => Ok(spot),
+        match self.folder.find(path) {
+            Ok(at) => match push_spot(&mut self.spots, path) {
+                Ok(spot) => {
+                    self.folder.enter(spot, at);
+                    Ok(spot)
+                }
                 Err(_) => Err(DepotFail::NoMemory),
             },
             Err(trouble) => self.miss(trouble),
@@ -192,6 +212,7 @@ where
     }
 
     fn leave(&mut self, spot: Spot) {
+        self.folder.leave(spot);
         drop_spot(&mut self.spots, spot);
     }
 
@@ -199,8 +220,7 @@ where
         if self.health.is_down() {
             return self.down();
         }
-        let path = path_in(&self.spots, spot);
-        match self.folder.length(path, &self.spots) {
+        match self.folder.length(spot) {
             Ok(length) => Ok(length),
             Err(trouble) => self.miss(trouble),
         }
@@ -210,8 +230,7 @@ where
         if self.health.is_down() {
             return self.down();
         }
-        let path = path_in(&self.spots, spot);
-        match self.folder.read_at(path, &self.spots, offset, into) {
+        match self.folder.read_at(spot, offset, into) {
             Ok(count) => Ok(count),
             Err(trouble) => self.miss(trouble),
         }
@@ -221,8 +240,7 @@ where
         if self.is_barred() {
             return self.bar();
         }
-        let path = path_in(&self.spots, spot);
-        let done = self.folder.write_at(path, &self.spots, offset, bytes);
+        let done = self.folder.write_at(spot, offset, bytes);
         self.settle(done)
     }
 
@@ -234,13 +252,13 @@ where
             };
         }
         let path = path_in(&self.spots, spot);
-        match self.folder.sync(path) {
+        match self.folder.sync(spot, path) {
             Ok(()) => {
                 self.health.count();
                 Ok(())
             }
             Err(fault) => {
-                self.fault = Some(fault);
+                self.note(fault);
                 self.health.count();
                 let _ = self.health.own_fault(false);
                 Err(Failed)

@@ -1,26 +1,45 @@
 // The system calls behind a depot of files below a folder.
-ghost use Rattle.std.specs.Prelude.{◌<◌, ◌≤◌, ◌+◌, ◌^◌, length, IfOk, IfSome, IsErr};
+ghost use Rattle.std.specs.Prelude.{◌≤◌, ◌<◌, ◌+◌, ◌^◌, length, IfOk, IsErr};
 
-use crate::entries::Entries;
-use crate::files::{is_there, made, opened, read_on};
+use crate::files::{make, open, open_again, read_on, rename, renew, write_on};
+use crate::folders::Folders;
 use crate::handles::Handles;
-use crate::paths::{folder_of, joined, shown, trimmed};
+use crate::paths::{joined, trimmed};
 use crate::trouble::{Fault, Trouble};
 use std::alloc::AllocError;
-use std::fs::{self, OpenFile};
+use std::fs::OpenFile;
 use std::io::{self, ErrorKind};
+use std::mem;
 use std::os::unix::fs::FileExt;
 use std::rt::Files;
-use wdt_depot::{Entered, MAX_END};
-use wdt_units::Name;
+use wdt_depot::MAX_END;
+use wdt_units::{Name, Spot};
 
-// A folder, the files below it that are open, and the folders whose entries aren't stable.
+// Where the log is, and a new one before it is put there.
+const LOG: &str = ".wlog";
+
+const NEW_LOG: &str = ".wlog.new";
+
+// What is known of the log in this session.
+#[derive(Drop)]
+enum Log {
+    Unmet,
+    // It was there before, and wasn't synced yet. A copy of it will be made at this path.
+    Found(String),
+    // All of it was synced in this session, or will be.
+    Own,
+}
+
+// A folder, the files below it that are open, and what is known of the folders below it.
 #[derive(Drop)]
 pub struct Folder<R: Files + AllocGlobal + Clone + Drop> {
     rt: R,
     root: String,
     handles: Handles<R::File>,
-    entries: Entries,
+    folders: Folders,
+    log: Log,
+    // A sync has failed. What was written may be lost, and a later sync may answer Ok for it.
+    is_spoilt: bool,
 }
 
 impl<R: Files + AllocGlobal + Clone + Drop> Folder<R>
@@ -33,211 +52,271 @@ where
             rt,
             root,
             handles: Handles::none(alloc),
-            entries: Entries::none(alloc),
+            folders: Folders::none(alloc),
+            log: Log::Unmet,
+            is_spoilt: false,
         }
     }
 
-    fn full(&self, path: &Name) -> Result<String, AllocError> {
-        joined(self.rt.alloc(), trimmed(self.root.as_str()), path.text())
+    // Forgets all that is known and open, as a new session begins.
+    pub fn reopen(&mut self) {
+        let alloc = self.rt.alloc();
+        self.handles.close_all();
+        self.folders = Folders::none(alloc);
+        self.log = Log::Unmet;
+        self.is_spoilt = false;
     }
 
-    fn shown(&self, path: &Name) -> String {
-        shown(self.rt.alloc(), trimmed(self.root.as_str()), path.text())
+    fn full(&self, path: &str) -> Result<String, AllocError> {
+        joined(self.rt.alloc(), trimmed(self.root.as_str()), path)
     }
 
-    fn trouble(&self, doing: &'static str, path: &Name, reason: io::Error) -> Trouble {
-        Trouble::of(doing, self.shown(path), reason)
+    // Whether the folder of a file is there.
+    fn reach(&mut self, full: &str, makes: bool) -> Result<bool, Trouble> {
+        let alloc = self.rt.alloc();
+        let root = trimmed(self.root.as_str());
+        self.folders.reach(&self.rt, alloc, root, full, makes)
     }
 
     // Where the open file of a path is: None where no file is there.
-    pub fn look(&mut self, path: &Name, spots: &Vec<Entered>) -> Result<Option<usize>, Trouble>
-        ensures { IfOk result (λ found. IfSome found (λ at. at < length self.new.handles.list.items)) }
-    {
-        if let Some(at) = self.handles.find(path) {
+    pub fn look(&mut self, path: &Name) -> Result<Option<usize>, Trouble> {
+        let full = self.full(path.text())?;
+        if let Some(at) = self.handles.find(full.as_str()) {
             return Ok(Some(at));
         }
-        let full = self.full(path)?;
-        let name = path.copy()?;
-        self.handles.make_room(spots)?;
-        let file = match is_there(&self.rt, full.as_str()) {
-            Ok(false) => return Ok(None),
-            Ok(true) => opened(&self.rt, full.as_str(), false),
-            Err(reason) => Err(reason),
-        };
-        match file {
-            Ok(file) => {
-                self.handles.keep(name, file, false);
-                Ok(self.handles.find(path))
+        self.make_room()?;
+        if !self.reach(full.as_str(), false)? {
+            return Ok(None);
+        }
+        match open(&self.rt, full.as_str(), false) {
+            Ok(Some(file)) => {
+                self.meet_log(path)?;
+                Ok(Some(self.handles.keep(full, file, false)))
             }
+            Ok(None) => Ok(None),
             Err(reason) => Err(Trouble::of("opening", full, reason)),
         }
     }
 
     // Where the open file of a path is, which has to be there.
-    pub fn open(&mut self, path: &Name, spots: &Vec<Entered>) -> Result<usize, Trouble>
-        ensures { IfOk result (λ at. at < length self.new.handles.list.items) }
-    {
-        match self.look(path, spots) {
-            Ok(Some(at)) => Ok(at),
-            Ok(None) => Err(self.trouble("opening", path, io::Error::from(ErrorKind::NotFound))),
-            Err(trouble) => Err(trouble),
+    pub fn find(&mut self, path: &Name) -> Result<usize, Trouble> {
+        match self.look(path)? {
+            Some(at) => Ok(at),
+            None => {
+                let reason = io::Error::from(ErrorKind::NotFound);
+                Err(Trouble::of("opening", self.full(path.text())?, reason))
+            }
         }
     }
 
-    // An empty file stands at the path, and stays open. All memory is taken before anything is made.
-    pub fn make(&mut self, path: &Name, spots: &Vec<Entered>) -> Result<(), Trouble> {
-        let alloc = self.rt.alloc();
-        let root = trimmed(self.root.as_str());
-        let full = joined(alloc, root, path.text())?;
-        let name = path.copy()?;
-        self.handles.make_room(spots)?;
-        self.entries.look_above(&self.rt, alloc, root)?;
-        let mut way = Vec::new(alloc);
-        self.entries.prepare(alloc, root, full.as_str(), &mut way)?;
-        let file = match self.make_folder_of(full.as_str()) {
-            Ok(()) => made(&self.rt, full.as_str()),
-            Err(reason) => Err(reason),
-        };
-        match file {
+    // A log that is there before this session made one.
+    fn meet_log(&mut self, path: &Name) -> Result<(), AllocError> {
+        if path.text() == LOG && matches!(self.log, Log::Unmet) {
+            self.log = Log::Found(self.full(NEW_LOG)?);
+        }
+        Ok(())
+    }
+
+    fn own_log(&mut self, path: &Name) {
+        if path.text() == LOG {
+            self.log = Log::Own;
+        }
+    }
+
+    // Makes room for one more open file. What was written to the one that is closed for it is synced.
+    fn make_room(&mut self) -> Result<(), Trouble> {
+        if let Some(at) = self.handles.surplus() {
+            let synced = self.sync_written(at);
+            self.judge(synced)?;
+            self.handles.close(at);
+        }
+        self.handles.reserve()?;
+        Ok(())
+    }
+
+    pub fn enter(&mut self, spot: Spot, at: usize) {
+        self.handles.enter(spot, at);
+    }
+
+    pub fn leave(&mut self, spot: Spot) {
+        self.handles.leave(spot);
+    }
+
+    // A new empty file stands at the path, and stays open. All memory is taken before it is made.
+    pub fn make(&mut self, path: &Name) -> Result<(), Trouble> {
+        self.sound()?;
+        let full = self.full(path.text())?;
+        self.make_room()?;
+        self.reach(full.as_str(), true)?;
+        match make(&self.rt, full.as_str()) {
             Ok(file) => {
-                self.handles.keep(name, file, true);
-                self.entries.list(way);
+                self.folders.list(full.as_str());
+                self.handles.keep(full, file, true);
+                self.own_log(path);
                 Ok(())
             }
-            Err(reason) => Err(Trouble::of("making", full, reason)),
+            Err(reason) => {
+                // The file that stood there may be gone.
+                self.handles.forget(full.as_str());
+                Err(Trouble::of("making", full, reason))
+            }
         }
     }
 
-    fn make_folder_of(&self, full: &str) -> io::Result<()> {
-        let folder = folder_of(full);
-        if self.entries.is_known(folder) {
-            return Ok(());
-        }
-        fs::create_dir_all(&self.rt, folder)
-    }
-
-    pub fn length(&mut self, path: &Name, spots: &Vec<Entered>) -> Result<u64, Trouble> {
-        match self.open(path, spots) {
-            Ok(at) => match self.handles.list[at].file.metadata() {
-                Ok(about) => Ok(about.len()),
-                Err(reason) => Err(self.trouble("reading", path, reason)),
-            },
-            Err(trouble) => Err(trouble),
+    pub fn length(&mut self, spot: Spot) -> Result<u64, Trouble> {
+        let alloc = self.rt.alloc();
+        let handle = self.handles.of(spot)?;
+        match handle.file.metadata() {
+            Ok(about) => Ok(about.len()),
+            Err(reason) => Err(Trouble::at(alloc, "reading", handle.full.as_str(), reason)),
         }
     }
 
-    pub fn read_at(
-        &mut self,
-        path: &Name,
-        spots: &Vec<Entered>,
-        offset: u64,
-        into: &mut [u8],
-    ) -> Result<usize, Trouble>
+    pub fn read_at(&mut self, spot: Spot, offset: u64, into: &mut [u8]) -> Result<usize, Trouble>
         ensures { IfOk result (λ n. n ≤ length into.new) }
     {
-        match self.open(path, spots) {
-            Ok(at) => match read_on(&self.handles.list[at].file, offset, into) {
-                Ok(count) => Ok(count),
-                Err(reason) => Err(self.trouble("reading", path, reason)),
-            },
-            Err(trouble) => Err(trouble),
+        let alloc = self.rt.alloc();
+        let handle = self.handles.of(spot)?;
+        match read_on(&handle.file, offset, into) {
+            Ok(count) => Ok(count),
+            Err(reason) => Err(Trouble::at(alloc, "reading", handle.full.as_str(), reason)),
         }
     }
 
     // Writes the bytes. A file that was open for reading alone is opened again first.
-    pub fn write_at(
-        &mut self,
-        path: &Name,
-        spots: &Vec<Entered>,
-        offset: u64,
-        bytes: &[u8],
-    ) -> Result<(), Trouble>
+    pub fn write_at(&mut self, spot: Spot, offset: u64, bytes: &[u8]) -> Result<(), Trouble>
         ensures { 2 ^ 41 < offset + length bytes.now → IsErr result }
     {
+        self.sound()?;
+        let alloc = self.rt.alloc();
+        let handle = self.handles.of(spot)?;
+        let full = handle.full.as_str();
         if offset > MAX_END || bytes.len() as u64 > MAX_END - offset {
             let reason = io::Error::from(ErrorKind::FileTooLarge);
-            return Err(self.trouble("writing", path, reason));
+            return Err(Trouble::at(alloc, "writing", full, reason));
         }
-        match self.open_to_write(path, spots) {
-            Ok(at) => match self.handles.list[at].file.write_all_at(bytes, offset) {
-                Ok(()) => Ok(()),
-                Err(reason) => Err(self.trouble("writing", path, reason)),
-            },
-            Err(trouble) => Err(trouble),
-        }
-    }
-
-    fn open_to_write(&mut self, path: &Name, spots: &Vec<Entered>) -> Result<usize, Trouble>
-        ensures { IfOk result (λ at. at < length self.new.handles.list.items) }
-    {
-        let at = match self.open(path, spots) {
-            Ok(at) => at,
-            Err(trouble) => return Err(trouble),
-        };
-        if self.handles.list[at].writes {
-            return Ok(at);
-        }
-        let full = self.full(path)?;
-        match opened(&self.rt, full.as_str(), true) {
-            Ok(file) => {
-                let handle = &mut self.handles.list[at];
-                handle.file = file;
-                handle.writes = true;
-                Ok(at)
+        if !handle.writes {
+            match open_again(&self.rt, full, &handle.file) {
+                Ok(file) => handle.file = file,
+                Err(reason) => return Err(Trouble::at(alloc, "opening", full, reason)),
             }
-            Err(reason) => Err(Trouble::of("opening", full, reason)),
+            handle.writes = true;
+        }
+        handle.is_dirty = true;
+        match write_on(&handle.file, offset, bytes) {
+            Ok(()) => Ok(()),
+            Err(reason) => Err(Trouble::at(alloc, "writing", handle.full.as_str(), reason)),
         }
     }
 
     // Makes a file's bytes stable, and before a log's all entries of folders that aren't. It takes no
     // memory but for a fault's text.
-    pub fn sync(&mut self, path: &Name) -> Result<(), Fault> {
-        let alloc = self.rt.alloc();
-        if path.reserved() {
-            self.entries.sync(&self.rt, alloc)?;
+    pub fn sync(&mut self, spot: Spot, path: &Name) -> Result<(), Option<Fault>> {
+        if self.is_spoilt {
+            return Err(None);
         }
-        let synced = match self.handles.find(path) {
-            Some(at) => self.handles.list[at].file.sync_data(),
-            None => Err(io::Error::from(ErrorKind::NotFound)),
-        };
+        let at = self.handles.place_of(spot);
+        let synced = self.sync_place(at, path);
+        self.is_spoilt = synced.is_err();
         match synced {
             Ok(()) => Ok(()),
-            Err(reason) => Err(Fault::of("syncing", self.shown(path), reason)),
+            Err(fault) => Err(Some(fault)),
+        }
+    }
+
+    fn sync_place(&mut self, at: usize, path: &Name) -> Result<(), Fault> {
+        let alloc = self.rt.alloc();
+        if path.text() == LOG {
+            self.renew_log(at)?;
+        }
+        if path.reserved() {
+            self.folders.sync(&self.rt, alloc)?;
+        }
+        self.sync_file(at)
+    }
+
+    // Puts a copy of the log that was there before this session in its place. Where the sync of an
+    // earlier session failed, the system may show bytes that aren't on the disk, and take them for
+    // stable; those of a new file it can't.
+    fn renew_log(&mut self, at: usize) -> Result<(), Fault> {
+        let alloc = self.rt.alloc();
+        let Log::Found(beside) = mem::replace(&mut self.log, Log::Own) else {
+            return Ok(());
+        };
+        self.handles.forget(beside.as_str());
+        let Some(handle) = self.handles.get(at) else {
+            return Ok(());
+        };
+        let full = handle.full.as_str();
+        match renew(&self.rt, full, beside.as_str(), &handle.file) {
+            Ok(file) => {
+                self.folders.list(full);
+                handle.file = file;
+                handle.writes = true;
+                Ok(())
+            }
+            Err(reason) => Err(Fault::at(alloc, "syncing", full, reason)),
+        }
+    }
+
+    // Syncs a file to which something was written.
+    fn sync_written(&mut self, at: usize) -> Result<(), Fault> {
+        match self.handles.get(at) {
+            Some(handle) if handle.is_dirty => self.sync_file(at),
+            _ => Ok(()),
+        }
+    }
+
+    fn sync_file(&mut self, at: usize) -> Result<(), Fault> {
+        let alloc = self.rt.alloc();
+        let Some(handle) = self.handles.get(at) else {
+            let reason = io::Error::from(ErrorKind::NotFound);
+            return Err(Fault::of("syncing", String::new(alloc), reason));
+        };
+        match handle.file.sync_data() {
+            Ok(()) => {
+                handle.is_dirty = false;
+                Ok(())
+            }
+            Err(reason) => Err(Fault::at(alloc, "syncing", handle.full.as_str(), reason)),
         }
     }
 
     // Renames a file, and makes that and all entries of folders stable. All memory is taken before.
     pub fn put_in_place(&mut self, from: &Name, to: &Name) -> Result<(), Trouble> {
-        let alloc = self.rt.alloc();
-        let root = trimmed(self.root.as_str());
-        let source = joined(alloc, root, from.text())?;
-        let target = joined(alloc, root, to.text())?;
-        let mut way = Vec::new(alloc);
-        self.entries
-            .prepare(alloc, root, source.as_str(), &mut way)?;
-        self.entries
-            .prepare(alloc, root, target.as_str(), &mut way)?;
-        self.handles.close(from);
-        self.handles.close(to);
-        if let Err(reason) = self.rename(source.as_str(), target.as_str()) {
+        self.sound()?;
+        let source = self.full(from.text())?;
+        let target = self.full(to.text())?;
+        self.reach(source.as_str(), false)?;
+        self.reach(target.as_str(), true)?;
+        if let Err(reason) = rename(&self.rt, source.as_str(), target.as_str()) {
             return Err(Trouble::of("putting in place", source, reason));
         }
-        self.entries.list(way);
-        match self.entries.sync(&self.rt, alloc) {
+        self.folders.list(source.as_str());
+        self.folders.list(target.as_str());
+        self.handles.rename(source.as_str(), target);
+        self.own_log(to);
+        let alloc = self.rt.alloc();
+        let synced = self.folders.sync(&self.rt, alloc);
+        self.judge(synced)
+    }
+
+    // Nothing is changed any more once a sync has failed.
+    fn sound(&self) -> Result<(), Trouble> {
+        if self.is_spoilt {
+            return Err(Trouble::Fault(None));
+        }
+        Ok(())
+    }
+
+    // A sync that failed spoils the folder.
+    fn judge(&mut self, synced: Result<(), Fault>) -> Result<(), Trouble> {
+        match synced {
             Ok(()) => Ok(()),
-            Err(fault) => Err(Trouble::Fault(fault)),
+            Err(fault) => {
+                self.is_spoilt = true;
+                Err(Trouble::Fault(Some(fault)))
+            }
         }
-    }
-
-    fn rename(&self, source: &str, target: &str) -> io::Result<()> {
-        if !is_there(&self.rt, source)? {
-            return Err(io::Error::from(ErrorKind::NotFound));
-        }
-        self.make_folder_of(target)?;
-        fs::rename(&self.rt, source, target)
-    }
-
-    pub fn close_all(&mut self) {
-        self.handles.close_all();
     }
 }

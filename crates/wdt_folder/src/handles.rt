@@ -1,26 +1,34 @@
-// Files that stay open, by their paths.
-ghost use Rattle.std.specs.Prelude.{◌<◌, length, IfSome};
-
+// Files that stay open, by their paths, and the spots on them.
+use crate::trouble::Trouble;
 use std::alloc::{AllocError, Global};
-use wdt_depot::Entered;
-use wdt_units::Name;
+use wdt_units::Spot;
 
 // So many files stay open; fewer than half of them can be entered.
 const MOST: usize = 64;
 
-// An open file, whether for writing too, and when it was used last.
+// So many spots can be entered.
+const SPOTS: usize = 32;
+
+// An open file.
 #[derive(Drop)]
 pub struct Handle<F: Drop> {
-    pub path: Name,
+    pub full: String,
     pub file: F,
+    // Whether it is open for writing too.
     pub writes: bool,
+    // Whether something was written since its last sync.
+    pub is_dirty: bool,
+    // How many spots are on it, and when it was used last.
+    spots: u32,
     used: u64,
 }
 
-// The files that were used last and those that are entered. Each path has one handle at most.
+// The files that were used last and those that are entered, each at a place of its own while it is
+// open. Each path has one at most. A spot has the place of its file by its number.
 #[derive(Drop)]
 pub struct Handles<F: Drop> {
-    pub list: Vec<Handle<F>>,
+    list: Vec<Option<Handle<F>>>,
+    places: [usize; SPOTS],
     uses: u64,
 }
 
@@ -28,90 +36,153 @@ impl<F: Drop> Handles<F> {
     pub fn none(alloc: Global) -> Handles<F> {
         Handles {
             list: Vec::new(alloc),
+            places: [0; SPOTS],
             uses: 0,
         }
     }
 
-    // Where the handle of a path is, which is used now.
-    pub fn find(&mut self, path: &Name) -> Option<usize>
-        ensures { IfSome result (λ at. at < length self.new.list.items) }
-    {
-        match self.place_of(path) {
-            Some(at) => {
-                self.uses = self.uses.saturating_add(1);
-                self.list[at].used = self.uses;
-                Some(at)
-            }
-            None => None,
-        }
-    }
-
-    fn place_of(&self, path: &Name) -> Option<usize>
-        ensures { IfSome result (λ at. at < length self.now.list.items) }
-    {
+    // Where the file of a path is.
+    pub fn find(&self, full: &str) -> Option<usize> {
         for at in 0..self.list.len() {
-            if self.list[at].path.bytes() == path.bytes() {
-                return Some(at);
+            if let Some(handle) = &self.list[at] {
+                if handle.full.as_str() == full {
+                    return Some(at);
+                }
             }
         }
         None
     }
 
-    // Makes room for one more handle: the one that was used longest ago is closed, but none that is
-    // entered.
-    pub fn make_room(&mut self, spots: &Vec<Entered>) -> Result<(), AllocError> {
-        if self.list.len() >= MOST {
-            self.close_oldest(spots);
+    pub fn get(&mut self, at: usize) -> Option<&mut Handle<F>> {
+        self.list.get_mut(at)?.as_mut()
+    }
+
+    // The file of a spot.
+    pub fn of(&mut self, spot: Spot) -> Result<&mut Handle<F>, Trouble> {
+        let at = self.place_of(spot);
+        match self.get(at) {
+            Some(handle) => Ok(handle),
+            // It isn't entered.
+            None => Err(Trouble::Fault(None)),
         }
+    }
+
+    pub fn place_of(&self, spot: Spot) -> usize {
+        match self.places.get(usize::from(spot.0)) {
+            Some(at) => *at,
+            None => MOST,
+        }
+    }
+
+    // The file that has to be closed before another is opened: the one that was used longest ago and
+    // isn't entered, where as many are open as may be.
+    pub fn surplus(&self) -> Option<usize> {
+        let mut oldest = None;
+        let mut used = u64::MAX;
+        let mut count: usize = 0;
+        for at in 0..self.list.len() {
+            if let Some(handle) = &self.list[at] {
+                count = count.saturating_add(1);
+                if handle.spots == 0 && handle.used < used {
+                    oldest = Some(at);
+                    used = handle.used;
+                }
+            }
+        }
+        if count < MOST {
+            return None;
+        }
+        oldest
+    }
+
+    pub fn reserve(&mut self) -> Result<(), AllocError> {
         self.list.reserve(1)
     }
 
-    fn close_oldest(&mut self, spots: &Vec<Entered>) {
-        let mut oldest = self.list.len();
-        let mut used = u64::MAX;
-        for at in 0..self.list.len() {
-            let handle = &self.list[at];
-            if handle.used < used && !is_entered(spots, &handle.path) {
-                oldest = at;
-                used = handle.used;
-            }
-        }
-        if oldest < self.list.len() {
-            let _ = self.list.swap_remove(oldest);
-        }
-    }
-
-    // Keeps a file open in place of the path's other handle, if it has one. The room for it was made.
-    pub fn keep(&mut self, path: Name, file: F, writes: bool) {
-        self.close(&path);
+    // Keeps a file open in place of the path's other one, whose spots are on it from now on. The room
+    // for it was made.
+    pub fn keep(&mut self, full: String, file: F, writes: bool) -> usize {
         self.uses = self.uses.saturating_add(1);
         let used = self.uses;
-        let _ = self.list.push(Handle {
-            path,
+        if let Some(at) = self.find(full.as_str()) {
+            if let Some(handle) = self.get(at) {
+                handle.file = file;
+                handle.writes = writes;
+                handle.is_dirty = false;
+                handle.used = used;
+            }
+            return at;
+        }
+        self.add(Handle {
+            full,
             file,
             writes,
+            is_dirty: false,
+            spots: 0,
             used,
-        });
+        })
     }
 
-    // Closes the path's handle, if it has one.
-    pub fn close(&mut self, path: &Name) {
-        if let Some(at) = self.find(path) {
-            let _ = self.list.swap_remove(at);
+    fn add(&mut self, handle: Handle<F>) -> usize {
+        for at in 0..self.list.len() {
+            if self.list[at].is_none() {
+                self.list[at] = Some(handle);
+                return at;
+            }
+        }
+        let at = self.list.len();
+        let _ = self.list.push(Some(handle));
+        at
+    }
+
+    // A spot is on the file at a place.
+    pub fn enter(&mut self, spot: Spot, at: usize) {
+        if let Some(place) = self.places.get_mut(usize::from(spot.0)) {
+            *place = at;
+        }
+        if let Some(handle) = self.get(at) {
+            handle.spots = handle.spots.saturating_add(1);
+        }
+    }
+
+    pub fn leave(&mut self, spot: Spot) {
+        self.uses = self.uses.saturating_add(1);
+        let used = self.uses;
+        let at = self.place_of(spot);
+        if let Some(handle) = self.get(at) {
+            handle.spots = handle.spots.saturating_sub(1);
+            handle.used = used;
+        }
+    }
+
+    pub fn close(&mut self, at: usize) {
+        if let Some(place) = self.list.get_mut(at) {
+            *place = None;
+        }
+    }
+
+    // No path leads to the file of this one any more. It is the first to be closed.
+    pub fn forget(&mut self, full: &str) {
+        if let Some(at) = self.find(full) {
+            if let Some(handle) = self.get(at) {
+                handle.full.clear();
+                handle.is_dirty = false;
+                handle.used = 0;
+            }
+        }
+    }
+
+    // The file of one path is that of another from now on, in place of the other one's.
+    pub fn rename(&mut self, from: &str, to: String) {
+        self.forget(to.as_str());
+        if let Some(at) = self.find(from) {
+            if let Some(handle) = self.get(at) {
+                handle.full = to;
+            }
         }
     }
 
     pub fn close_all(&mut self) {
         self.list.clear();
     }
-}
-
-// Whether a spot is on the path.
-fn is_entered(spots: &Vec<Entered>, path: &Name) -> bool {
-    for entered in spots {
-        if entered.path.bytes() == path.bytes() {
-            return true;
-        }
-    }
-    false
 }

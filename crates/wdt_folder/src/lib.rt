@@ -11,17 +11,14 @@
 #![tactic(auto)]
 
 mod depot;
-#[cfg(test)]
-mod depot_tests;
-mod entries;
 mod files;
 mod folder;
+mod folders;
 mod handles;
+mod names;
 mod paths;
 mod source;
 mod stops;
-#[cfg(test)]
-mod tests;
 mod trouble;
 
 pub use depot::FolderDepot;

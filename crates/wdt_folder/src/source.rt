@@ -5,6 +5,8 @@ ghost use Rattle.std.specs.Prelude.{◌≡◌, None};
 ghost use Rattle.wdt_units.specs.Counts.{Rises};
 ghost use Rattle.wdt_source.specs.declared.failure.SourceFail.TheVariants.{Failed};
 
+use crate::files::open;
+use crate::names::odd_name;
 use crate::paths::{joined, shown};
 use crate::trouble::{Fault, Trouble};
 use std::alloc::Global;
@@ -18,7 +20,8 @@ use wdt_tree::RawEntry;
 use wdt_units::{Name, is_reserved};
 
 /// The regular files of a folder and of those below it. Links, sockets, pipes and devices are
-/// skipped, and so are the receiver's own files `.wlog` and `.wlog.new`, at the root alone.
+/// skipped, and so is what stands at the receiver's own paths `.wlog` and `.wlog.new`, at the root
+/// alone. Whatever has taken the place of a file since the listing isn't read: that is a fault.
 #[derive(Drop)]
 pub struct FolderSource<R: Files + AllocGlobal + Clone + Drop> {
     rt: R,
@@ -36,8 +39,12 @@ struct Opened<F: Drop> {
 }
 
 impl<R: Files + AllocGlobal + Clone + Drop> FolderSource<R> {
+    ghost use Rattle.wdt_folder.specs.SourceFaults.{source_faults};
+
     /// A source of the files below a folder. Nothing is read yet.
-    pub fn at(rt: R, root: String) -> FolderSource<R> {
+    pub fn at(rt: R, root: String) -> FolderSource<R>
+        ensures { source_faults result ≡ 0 }
+    {
         FolderSource {
             rt,
             root,
@@ -91,18 +98,23 @@ impl<R: Files + AllocGlobal + Clone + Drop> FolderSource<R> {
         for entry in entries {
             let entry = match entry {
                 Ok(entry) => entry,
+                Err(reason) if reason.kind() == ErrorKind::InvalidFilename => {
+                    let name = odd_name(&self.rt, alloc, full.as_str());
+                    return Err(Trouble::Fault(Some(Fault::of_name(full, name, reason))));
+                }
                 Err(reason) => return Err(Trouble::of("listing", full, reason)),
             };
             let path = joined(alloc, folder, entry.file_name())?;
+            if is_reserved(path.as_bytes()) {
+                continue;
+            }
             match entry.metadata() {
                 Ok(about) if about.is_dir() => folders.push(path)?,
-                Ok(about) if about.is_file() && !is_reserved(path.as_bytes()) => raw.push(
-                    RawEntry {
-                        path: path.into_bytes(),
-                        size: about.len(),
-                        stamp: stamp(about.modified()),
-                    },
-                )?,
+                Ok(about) if about.is_file() => raw.push(RawEntry {
+                    path: path.into_bytes(),
+                    size: about.len(),
+                    stamp: stamp(about.modified()),
+                })?,
                 Ok(_) => {}
                 Err(reason) => {
                     let full = joined(alloc, self.root.as_str(), path.as_str())?;
@@ -143,21 +155,22 @@ impl<R: Files + AllocGlobal + Clone + Drop> FolderSource<R> {
         }
         let full = joined(*self.root.allocator(), self.root.as_str(), path.text())?;
         let path = path.copy()?;
-        match fs::open(&self.rt, full.as_str()) {
-            Ok(file) => {
+        match open(&self.rt, full.as_str(), false) {
+            Ok(Some(file)) => {
                 self.opened = Some(Opened { path, file });
                 Ok(())
             }
+            Ok(None) => Err(Trouble::of("reading", full, io::Error::from(ErrorKind::NotFound))),
             Err(reason) => Err(Trouble::of("reading", full, reason)),
         }
     }
 
-    fn fail(&mut self, fault: Fault) -> SourceFail
+    fn fail(&mut self, fault: Option<Fault>) -> SourceFail
         ensures failed { result ≡ Failed }
         ensures counted { Rises self.old.faults self.new.faults }
     {
         self.faults = self.faults.saturating_add(1);
-        self.fault = Some(fault);
+        self.fault = fault;
         SourceFail::Failed
     }
 }
@@ -166,11 +179,13 @@ impl<R: Files + AllocGlobal + Clone + Drop> Source for FolderSource<R>
 where
     R::File: FileExt,
 {
+    ghost use Rattle.wdt_folder.specs.SourceFaults.{source_faults};
+
     ghost told = { λ _. None };
 
     ghost listing = { λ _. None };
 
-    ghost faults = { λ s. s.faults };
+    ghost faults = { λ s. source_faults s };
 
     ghost slips = { λ _. 0 };
 

@@ -22,7 +22,7 @@ where
     }
 
     fn reopen(&mut self) {
-        self.folder.close_all();
+        self.folder.reopen();
         self.health.struck = None;
         self.health.own_then = self.health.own;
         self.spots.clear();

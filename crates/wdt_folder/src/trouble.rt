@@ -10,6 +10,8 @@ use wdt_units::NoMemory;
 pub struct Fault {
     doing: &'static str,
     path: String,
+    // A name in the folder of this path that isn't UTF-8.
+    name: Option<Vec<u8>>,
     reason: io::Error,
 }
 
@@ -18,6 +20,17 @@ impl Fault {
         Fault {
             doing,
             path,
+            name: None,
+            reason,
+        }
+    }
+
+    // The fault of a name in a folder that isn't UTF-8, where it is known.
+    pub(crate) fn of_name(folder: String, name: Option<Vec<u8>>, reason: io::Error) -> Fault {
+        Fault {
+            doing: "listing",
+            path: folder,
+            name,
             reason,
         }
     }
@@ -39,6 +52,10 @@ impl fmt::Display for Fault {
         let reason = &self.reason;
         if self.path.is_empty() {
             return write!(f, "{doing}: {reason}");
+        }
+        if let Some(name) = &self.name {
+            let name = name.escape_ascii();
+            return write!(f, "{doing} {path}/{name}: the name isn't UTF-8");
         }
         write!(f, "{doing} {path}: {reason}")
     }
@@ -62,9 +79,10 @@ impl fmt::Display for OneLine<'_> {
 }
 
 /// Why a call to the outside gave nothing.
-#[derive(Debug, Drop)]
+#[derive(Drop)]
 pub enum Trouble {
-    Fault(Fault),
+    /// A fault. It has no words of its own where an earlier one is its cause.
+    Fault(Option<Fault>),
     NoMemory,
 }
 
@@ -74,7 +92,15 @@ impl Trouble {
         if reason.kind() == ErrorKind::OutOfMemory {
             return Trouble::NoMemory;
         }
-        Trouble::Fault(Fault::of(doing, path, reason))
+        Trouble::Fault(Some(Fault::of(doing, path, reason)))
+    }
+
+    /// The same of a path that is copied, where there is memory.
+    pub fn at(alloc: Global, doing: &'static str, path: &str, reason: io::Error) -> Trouble {
+        if reason.kind() == ErrorKind::OutOfMemory {
+            return Trouble::NoMemory;
+        }
+        Trouble::Fault(Some(Fault::at(alloc, doing, path, reason)))
     }
 }
 

@@ -1,8 +1,9 @@
 -- A batch keeps files good, and takes nothing away.
-use Rattle.std.proofs.Common.{◌≡◌, inl, inr, ℕ, ◌<◌, ◌≤◌, ◌^◌, Bool, true, false, ◌&&◌, ◌||◌, not, nat_lt, nat_le, List, [], ◌∷◌, map, Option, Some, None, refl, sym, ◌∙◌, subst, arith}
+use Rattle.std.proofs.Common.{◌≡◌, inl, inr, ℕ, ◌<◌, ◌≤◌, ◌^◌, Bool, true, false, ◌&&◌, ◌||◌, not, nat_lt, nat_le, List, [], ◌∷◌, map, Option, Some, None, sym, ◌∙◌, subst, arith}
 use Rattle.std.specs.Prelude.{if◌then◌else◌, ◌==◌, bytes_eq}
 use Rattle.std.specs.List.{list_all, list_any}
 use Rattle.std.proofs.lemmas.Bool.{and_parts, and_from, or_cases, or_left, or_right, leb-true, ltb-true, eqb-true, not-true, cases_eq, ne_eqb, eq-eqb}
+use Rattle.std.proofs.lemmas.Option.{same_Some}
 use Rattle.wdt_units.specs.Have.{PlainSpan, is_in}
 use Rattle.wdt_units.specs.Tree.{File}
 use Rattle.wdt_ranges.specs.Spans.{end_of, has, is_span}
@@ -11,11 +12,8 @@ use Rattle.wdt_depot.specs.Disk.{Image}
 use Rattle.wdt_logfmt.specs.declared.entry.LogEntry.{LogEntry}
 use Rattle.wdt_logfmt.specs.declared.entry.LogEntry.TheVariants.{File as Named, Covered}
 use Rattle.wdt_logfmt.specs.Adding.{added, all_added, can_cover, can_name, covering, has_room, have_with, is_room_in, just_named, overlap, put_by_number, span_at, with_span}
-use Rattle.wdt_logfmt.specs.Spelling.{written_version}
 use Rattle.wdt_logfmt.specs.View.{NamedFile, is_file, is_numbered_above, is_rising, is_view, names}
-use Rattle.wdt_logfmt.proofs.Reread.{first_added}
-use Rattle.wdt_logfmt.proofs.Spans.{with_has}
-use Rattle.wdt_logfmt.proofs.Views.{added-view, can_cover-parts, file_parts, names_kept, names_put, view_parts}
+use Rattle.wdt_logfmt.proofs.ForCallers.{added-view, can_cover-parts, file_parts, first_added, names_kept, names_put, room_above, taken_true, view_parts, with_has}
 use Rattle.wdt_good.specs.Batch.{HoldsBatch, HoldsEntry}
 use Rattle.wdt_good.specs.Good.{Each, FitsTree, GoodFile, GoodFiles, HasBytes, HasTreeBytes, Stands, covers}
 
@@ -92,18 +90,6 @@ none_numbered Q n f (g ∷ fs) le all =
     let lt = ltb-true f.number g.number a.0 in
     ((λ same. absurd (omega arith)), none_numbered Q n f fs le a.1)
 
-room_above : (n : ℕ) (s : PlainSpan) (f : NamedFile) (fs : List NamedFile) → list_all (is_numbered_above f) fs ≡ true → list_any (is_room_in n s) fs ≡ true → f.number < n
-room_above n s f [] all any = absurd (cc)
-room_above n s f (g ∷ fs) all any =
-    let a = and_parts (nat_lt f.number g.number) (list_all (is_numbered_above f) fs) all in
-    elim (or_cases (g.number == n && has_room s g.have) (list_any (is_room_in n s) fs) any) [
-      | inl here ↦
-          let e = eqb-true g.number n (and_parts (g.number == n) (has_room s g.have) here).0 in
-          let lt = ltb-true f.number g.number a.0 in
-          omega arith
-      | inr later ↦ room_above n s f fs a.1 later
-    ]
-
 -- the file of the number is the one that has room
 each_adds : (n : ℕ) (s : PlainSpan) (fs : List NamedFile) → 0 < s.count → list_all is_file fs ≡ true → is_rising fs ≡ true → list_any (is_room_in n s) fs ≡ true → Each (λ f. f.number ≡ n → AddsSpan s f) fs
 each_adds n s [] some each up room = tt
@@ -160,15 +146,11 @@ covers_covering n s (f ∷ fs) path k adds h =
 
 -- ---- an entry
 
-taken_true : {A : Type 0} (b : Bool) (x y : A) → (if b then Some x else None) ≡ Some y → (b ≡ true) × (x ≡ y)
-taken_true true x y is = (refl, (cc))
-taken_true false x y is = absurd (cc)
-
-entry_good : (T : List File) (i : Image) (fs gs : List NamedFile) (e : LogEntry) → is_view fs ≡ true → GoodFiles T i fs → HoldsEntry T i fs e → added written_version fs e ≡ Some gs → GoodFiles T i gs
-entry_good T i fs gs (Named n path size stamp) view good holds adds =
+entry_good : (version : ℕ) (T : List File) (i : Image) (fs gs : List NamedFile) (e : LogEntry) → is_view fs ≡ true → GoodFiles T i fs → HoldsEntry T i fs e → added version fs e ≡ Some gs → GoodFiles T i gs
+entry_good version T i fs gs (Named n path size stamp) view good holds adds =
     let t = taken_true (can_name fs n path size) (put_by_number (just_named n path size stamp) fs) gs adds in
     subst (GoodFiles T i) t.1 (each_put (λ f. GoodFile T (i f.have.path) f) (just_named n path size stamp) fs (named_good T (i path) n path size stamp holds.0 holds.1) good)
-entry_good T i fs gs (Covered n offset count) view good holds adds =
+entry_good version T i fs gs (Covered n offset count) view good holds adds =
     let s = span_at offset count in
     let t = taken_true (can_cover fs n s) (map (covering n s) fs) gs adds in
     let one : Each (λ f. f.number ≡ n → AddsSpan s f × HasTreeBytes T (i f.have.path) f (s ∷ [])) fs =
@@ -177,50 +159,42 @@ entry_good T i fs gs (Covered n offset count) view good holds adds =
     subst (GoodFiles T i) t.1 (each_covering (λ f. GoodFile T (i f.have.path) f) (λ f. AddsSpan s f × HasTreeBytes T (i f.have.path) f (s ∷ [])) n s fs
     (λ f was has. covering_is (λ g. GoodFile T (i g.have.path) g) n s f (λ same. span_good T (i f.have.path) s f (has same).0 (has same).1 was) was) good one)
 
-entry_names : (fs gs : List NamedFile) (e : LogEntry) (path : List ℕ) → added written_version fs e ≡ Some gs → names fs path ≡ true → names gs path ≡ true
-entry_names fs gs (Named n p size stamp) path adds h =
+entry_names : (version : ℕ) (fs gs : List NamedFile) (e : LogEntry) (path : List ℕ) → added version fs e ≡ Some gs → names fs path ≡ true → names gs path ≡ true
+entry_names version fs gs (Named n p size stamp) path adds h =
     let t = taken_true (can_name fs n p size) (put_by_number (just_named n p size stamp) fs) gs adds in
     subst (λ hs. names hs path ≡ true) t.1 (names_put (just_named n p size stamp) fs path ∙ or_right (bytes_eq p path) (names fs path) h)
-entry_names fs gs (Covered n offset count) path adds h =
+entry_names version fs gs (Covered n offset count) path adds h =
     let t = taken_true (can_cover fs n (span_at offset count)) (map (covering n (span_at offset count)) fs) gs adds in
     subst (λ hs. names hs path ≡ true) t.1 (names_kept n (span_at offset count) fs path ∙ h)
 
-entry_covers : (fs gs : List NamedFile) (e : LogEntry) (path : List ℕ) (k : ℕ) → is_view fs ≡ true → added written_version fs e ≡ Some gs → covers fs path k ≡ true → covers gs path k ≡ true
-entry_covers fs gs (Named n p size stamp) path k view adds h =
+entry_covers : (version : ℕ) (fs gs : List NamedFile) (e : LogEntry) (path : List ℕ) (k : ℕ) → is_view fs ≡ true → added version fs e ≡ Some gs → covers fs path k ≡ true → covers gs path k ≡ true
+entry_covers version fs gs (Named n p size stamp) path k view adds h =
     let t = taken_true (can_name fs n p size) (put_by_number (just_named n p size stamp) fs) gs adds in
     subst (λ hs. covers hs path k ≡ true) t.1 (covers_put (just_named n p size stamp) fs path k h)
-entry_covers fs gs (Covered n offset count) path k view adds h =
+entry_covers version fs gs (Covered n offset count) path k view adds h =
     let s = span_at offset count in
     let t = taken_true (can_cover fs n s) (map (covering n s) fs) gs adds in
     subst (λ hs. covers hs path k ≡ true) t.1 (covers_covering n s fs path k (view_adds fs n s view t.0) h)
 
 -- ---- a batch
 
-same_some : {A : Type 0} (x y : A) → Some x ≡ Some y → x ≡ y
-same_some x y e = cc
+-- the files with a batch are good where the image holds what the batch says
+pub batch_good : (version : ℕ) (T : List File) (i : Image) (fs gs : List NamedFile) (es : List LogEntry) → is_view fs ≡ true → GoodFiles T i fs → HoldsBatch version T i fs es → all_added version fs es ≡ Some gs → GoodFiles T i gs
+batch_good version T i fs gs [] view good holds adds = subst (GoodFiles T i) (same_Some fs gs adds) good
+batch_good version T i fs gs (e ∷ es) view good holds adds =
+    let first = first_added version fs gs e es adds in
+    batch_good version T i first.0 gs es (added-view version fs first.0 e view first.1) (entry_good version T i fs first.0 e view good holds.0 first.1) (holds.1 first.0 first.1) first.2
 
--- the files with a batch are a view
-pub batch_view : (fs gs : List NamedFile) (es : List LogEntry) → is_view fs ≡ true → all_added written_version fs es ≡ Some gs → is_view gs ≡ true
-batch_view fs gs [] view adds = subst (λ hs. is_view hs ≡ true) (same_some fs gs adds) view
-batch_view fs gs (e ∷ es) view adds =
-    let first = first_added written_version fs gs e es adds in
-    batch_view first.0 gs es (added-view written_version fs first.0 e view first.1) first.2
+-- they name no less
+pub batch_names : (version : ℕ) (fs gs : List NamedFile) (es : List LogEntry) (path : List ℕ) → all_added version fs es ≡ Some gs → names fs path ≡ true → names gs path ≡ true
+batch_names version fs gs [] path adds h = subst (λ hs. names hs path ≡ true) (same_Some fs gs adds) h
+batch_names version fs gs (e ∷ es) path adds h =
+    let first = first_added version fs gs e es adds in
+    batch_names version first.0 gs es path first.2 (entry_names version fs first.0 e path first.1 h)
 
--- they are good where the image holds what the batch says
-pub batch_good : (T : List File) (i : Image) (fs gs : List NamedFile) (es : List LogEntry) → is_view fs ≡ true → GoodFiles T i fs → HoldsBatch T i fs es → all_added written_version fs es ≡ Some gs → GoodFiles T i gs
-batch_good T i fs gs [] view good holds adds = subst (GoodFiles T i) (same_some fs gs adds) good
-batch_good T i fs gs (e ∷ es) view good holds adds =
-    let first = first_added written_version fs gs e es adds in
-    batch_good T i first.0 gs es (added-view written_version fs first.0 e view first.1) (entry_good T i fs first.0 e view good holds.0 first.1) (holds.1 first.0 first.1) first.2
-
-pub batch_names : (fs gs : List NamedFile) (es : List LogEntry) (path : List ℕ) → all_added written_version fs es ≡ Some gs → names fs path ≡ true → names gs path ≡ true
-batch_names fs gs [] path adds h = subst (λ hs. names hs path ≡ true) (same_some fs gs adds) h
-batch_names fs gs (e ∷ es) path adds h =
-    let first = first_added written_version fs gs e es adds in
-    batch_names first.0 gs es path first.2 (entry_names fs first.0 e path first.1 h)
-
-pub batch_covers : (fs gs : List NamedFile) (es : List LogEntry) (path : List ℕ) (k : ℕ) → is_view fs ≡ true → all_added written_version fs es ≡ Some gs → covers fs path k ≡ true → covers gs path k ≡ true
-batch_covers fs gs [] path k view adds h = subst (λ hs. covers hs path k ≡ true) (same_some fs gs adds) h
-batch_covers fs gs (e ∷ es) path k view adds h =
-    let first = first_added written_version fs gs e es adds in
-    batch_covers first.0 gs es path k (added-view written_version fs first.0 e view first.1) first.2 (entry_covers fs first.0 e path k view first.1 h)
+-- they cover no less
+pub batch_covers : (version : ℕ) (fs gs : List NamedFile) (es : List LogEntry) (path : List ℕ) (k : ℕ) → is_view fs ≡ true → all_added version fs es ≡ Some gs → covers fs path k ≡ true → covers gs path k ≡ true
+batch_covers version fs gs [] path k view adds h = subst (λ hs. covers hs path k ≡ true) (same_Some fs gs adds) h
+batch_covers version fs gs (e ∷ es) path k view adds h =
+    let first = first_added version fs gs e es adds in
+    batch_covers version first.0 gs es path k (added-view version fs first.0 e view first.1) first.2 (entry_covers version fs first.0 e path k view first.1 h)

@@ -9,16 +9,15 @@ use Rattle.std.proofs.lemmas.Slice.Eq.{bytes_eq-Decides}
 use Rattle.wdt_units.specs.Path.{is_lawful, is_reserved}
 use Rattle.wdt_units.specs.Tree.{File}
 use Rattle.wdt_depot.specs.Disk.{Disk, DiskFile, IfFile, Image, IsFileImage, IsImage, IsSound, IsSoundDisk, MayLeave, clean}
-use Rattle.wdt_depot.proofs.Images.{clean_image, synced_is_image}
+use Rattle.wdt_depot.proofs.ForCallers.{clean_image, synced_is_image}
 use Rattle.wdt_logfmt.specs.declared.entry.LogEntry.{LogEntry}
 use Rattle.wdt_logfmt.specs.View.{Meaning, NamedFile, is_file, is_view, names}
-use Rattle.wdt_logfmt.proofs.Reach.{means-closed}
-use Rattle.wdt_logfmt.proofs.Views.{file_parts, view_parts, eq_sym}
+use Rattle.wdt_logfmt.proofs.ForCallers.{batch-view, eq_sym, file_parts, means-closed, view_parts}
 use Rattle.wdt_good.specs.Good.{Each, GoodFile, GoodFiles, IsGood, covers, log_of, log_path, meaning_in, new_log_path}
 use Rattle.wdt_good.specs.Logged.{AllFit, AllGood, IsRemembered, LoggedAt, LoggedName}
 use Rattle.wdt_good.specs.LogState.{LogOf, IsReady}
 use Rattle.wdt_good.specs.Leading.{HasLog, Leads, MeansEither}
-use Rattle.wdt_good.proofs.Files.{batch_covers, batch_good, batch_names, batch_view, each_with}
+use Rattle.wdt_good.proofs.Files.{batch_covers, batch_good, batch_names, each_with}
 
 -- what was synced of each file
 abbrev synced_of : Disk → Image
@@ -79,16 +78,16 @@ others_good T d i bytes fs view good =
     each_with (λ f. GoodFile T (at_rest d i bytes f.have.path) f) (λ f. IsOther f.have.path) (λ f. GoodFile T (i f.have.path) f) fs
     (λ f h n. subst (λ o. GoodFile T o f) (at_rest-other d i bytes f.have.path n.old n.new) h) good (view_others fs view)
 
-pub ready_leads : (T : List File) (forgotten : List (List ℕ)) (fs gs : List NamedFile) (es : List LogEntry) (d : Disk) → is_view fs ≡ true → IsReady T fs gs es d → Leads T forgotten fs gs d
-ready_leads T forgotten fs gs es d view ready = record {
+pub ready_leads : (version : ℕ) (T : List File) (forgotten : List (List ℕ)) (fs gs : List NamedFile) (es : List LogEntry) (d : Disk) → is_view fs ≡ true → IsReady version T fs gs es d → Leads T forgotten fs gs d
+ready_leads version T forgotten fs gs es d view ready = record {
   fit = ready.fit;
-  view = batch_view fs gs es view ready.adds;
-  good = λ i image good. batch_good T i fs gs es view good (ready.holds i image) ready.adds;
-  named = λ path remembered h. batch_names fs gs es path ready.adds h;
-  covered = λ path k remembered h. batch_covers fs gs es path k view ready.adds h;
+  view = batch-view version fs gs es view ready.adds;
+  good = λ i image good. batch_good version T i fs gs es view good (ready.holds i image) ready.adds;
+  named = λ path remembered h. batch_names version fs gs es path ready.adds h;
+  covered = λ path k remembered h. batch_covers version fs gs es path k view ready.adds h;
 }
 
-module _ (T : List File) (forgotten : List (List ℕ)) (fs gs : List NamedFile) (end : ℕ) (d e : Disk) (file : DiskFile) (sound : IsSoundDisk d) (log : LogOf fs end d) (leads : Leads T forgotten fs gs d) (has : HasLog d file e) where
+module _ (version : ℕ) (T : List File) (forgotten : List (List ℕ)) (fs gs : List NamedFile) (end : ℕ) (d e : Disk) (file : DiskFile) (sound : IsSoundDisk d) (log : LogOf version fs end d) (leads : Leads T forgotten fs gs d) (has : HasLog d file e) where
   rest : List ℕ
   rest = log.front ++ log.gate ∷ log.behind
 
@@ -105,7 +104,7 @@ module _ (T : List File) (forgotten : List (List ℕ)) (fs gs : List NamedFile) 
 
     j-means : log_of j ≡ Ok before
     unfolding j rest before
-    j-means = ap meaning_in (at_rest-log d i rest) ∙ means-closed log.version log.front fs log.gate log.behind log.reaches log.closed
+    j-means = ap meaning_in (at_rest-log d i rest) ∙ means-closed version log.front fs log.gate log.behind log.reaches log.closed
 
     j-good : GoodFiles T j fs
     unfolding before
@@ -155,12 +154,12 @@ left_there None found s is left = absurd (cc)
 left_there (Some t) None s is left = absurd left
 left_there (Some t) (Some b) s is left = let same : t ≡ s = cc in (b, refl, subst (λ u. IsFileImage u b) same left)
 
-pub log_is_good : (T : List File) (forgotten : List (List ℕ)) (fs gs : List NamedFile) (end : ℕ) (d e : Disk) (file : DiskFile) → IsSoundDisk d → LogOf fs end d → Leads T forgotten fs gs d → HasLog d file e
+pub log_is_good : (version : ℕ) (T : List File) (forgotten : List (List ℕ)) (fs gs : List NamedFile) (end : ℕ) (d e : Disk) (file : DiskFile) → IsSoundDisk d → LogOf version fs end d → Leads T forgotten fs gs d → HasLog d file e
     → ((bytes : List ℕ) → IsFileImage file bytes → MeansEither fs gs bytes) → AllGood T forgotten d e
-log_is_good T forgotten fs gs end d e file sound log leads has means i image =
+log_is_good version T forgotten fs gs end d e file sound log leads has means i image =
     let l = left_there (e log_path) (i log_path) file has.file (image log_path) in
     let m = means l.0 l.2 in
-    image_good T forgotten fs gs end d e file sound log leads has i image m.0 (ap meaning_in l.1 ∙ m.1) m.2
+    image_good version T forgotten fs gs end d e file sound log leads has i image m.0 (ap meaning_in l.1 ∙ m.1) m.2
 
 -- what is good for the tree is good for what the disk itself has logged
 pub fit_good : (T : List File) (forgotten : List (List ℕ)) (d : Disk) → AllFit T d → AllGood T forgotten d d

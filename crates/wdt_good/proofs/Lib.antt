@@ -1,2 +1,9 @@
+pub mod Batches
+pub mod Calling
 pub mod Files
+pub mod ForCallers
 pub mod Images
+pub mod Moments
+pub mod Moving
+pub mod Resting
+pub mod Sweeping

@@ -14,10 +14,11 @@ Each P (x ∷ xs) = P x × Each P xs
 
 -- ---- the log of an image
 
--- where the log is, and where a new one is written
+-- where the log is
 abbrev pub log_path : List ℕ
 log_path = codes ".wlog"
 
+-- where a new log is written, before it is put in place
 abbrev pub new_log_path : List ℕ
 new_log_path = codes ".wlog.new"
 
@@ -63,6 +64,7 @@ pub record GoodFile (T : List File) (found : Option (List ℕ)) (f : NamedFile) 
   pub stands : Stands found f
   pub same : HasTreeBytes T found f f.have.spans
 
+-- the same of each of these files
 abbrev pub GoodFiles : List File → Image → List NamedFile → Type 0
 GoodFiles T i fs = Each (λ f. GoodFile T (i f.have.path) f) fs
 

@@ -3,3 +3,7 @@ pub mod Logged
 pub mod Batch
 pub mod LogState
 pub mod Leading
+pub mod Changing
+pub mod Growing
+pub mod Sweeping
+pub mod Calls

@@ -16,10 +16,11 @@ NamesIn i path = (m : Meaning) × (log_of i ≡ Ok m) × IsTrue (names m.files p
 abbrev pub CoversIn : Image → List ℕ → ℕ → Type 0
 CoversIn i path k = (m : Meaning) × (log_of i ≡ Ok m) × IsTrue (covers m.files path k)
 
--- the logs of all images name the file, and cover the position
+-- the logs of all images name the file
 abbrev pub LoggedName : Disk → List ℕ → Type 0
 LoggedName d path = (i : Image) → IsImage d i → NamesIn i path
 
+-- the logs of all images cover the position of the file
 abbrev pub LoggedAt : Disk → List ℕ → ℕ → Type 0
 LoggedAt d path k = (i : Image) → IsImage d i → CoversIn i path k
 

@@ -7,11 +7,10 @@ use Rattle.std.proofs.lemmas.List.Folds.{sum_by-replicate}
 use Rattle.std.proofs.lemmas.List.Sums.{sum_by-set, sum_by-cons, get_or-le-sum_by}
 use Rattle.std.proofs.lemmas.Option.{IfSome_then}
 use Rattle.wdt_units.specs.declared.blocks.Block.{Block}
-use Rattle.wdt_units.specs.Blocks.{is_same}
-use Rattle.wdt_units.specs.LaneWords.{Claims, no_claims, claimed, sent, cut_to, closed_at, finished}
-use Rattle.wdt_units.proofs.BlockCounts.{count_of-nil, count_of-push, one_if_same, one_if-true, one_if-false}
-use Rattle.wdt_units.proofs.BlockOrder.{one_block}
-use Rattle.wdt_units.specs.Claimed.{lane_at, with_lane, count_in, count_kept, IsLane, AreLanes}
+use Rattle.wdt_claims.specs.Blocks.{is_same}
+use Rattle.wdt_claims.specs.LaneWords.{Claims, no_claims, claimed, sent, cut_to, closed_at, finished}
+use Rattle.wdt_claims.proofs.Shared.{count_of-nil, count_of-push, one_if_same, one_if-true, one_if-false, one_block}
+use Rattle.wdt_claims.specs.Claimed.{lane_at, with_lane, count_in, count_kept, IsLane, AreLanes}
 
 -- ---- counts
 

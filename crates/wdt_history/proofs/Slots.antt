@@ -2,9 +2,9 @@
 use Rattle.std.proofs.Common.{◌≡◌, ℕ, zero, suc, ◌<◌, ◌≤◌, List, [], ◌∷◌, length, get_or, set, map, Option, Some, None, refl, sym, ap, ◌∙◌, subst, inl, inr, arith}
 use Rattle.std.proofs.lemmas.Bool.{cases_eq}
 use Rattle.std.proofs.lemmas.List.{get_or-map, get_or_read, get_or-set_same, get_or-set_other, length-map, map-set, set-get_or}
-use Rattle.wdt_units.specs.LaneWords.{Claims, no_claims, finished}
+use Rattle.wdt_claims.specs.LaneWords.{Claims, no_claims, finished}
 use Rattle.wdt_units.specs.declared.numbers.Lane.{Lane}
-use Rattle.wdt_units.specs.Claimed.{lane_at, with_lane, IsLane, AreLanes}
+use Rattle.wdt_claims.specs.Claimed.{lane_at, with_lane, IsLane, AreLanes}
 use Rattle.wdt_history.specs.Slots.{Slot, Book, claims_in, finished_slot, no_slot, HasRoom, IsBook}
 use Rattle.wdt_history.proofs.Keeps.{read_at, lanes_finished}
 

@@ -5,14 +5,13 @@ use Rattle.std.specs.Option.{option_map, unwrap_or}
 use Rattle.std.proofs.lemmas.Bool.{not-true, not_from_false, or_parts}
 use Rattle.std.proofs.lemmas.Option.{slice_get_within}
 use Rattle.wdt_units.specs.declared.blocks.Block.{Block}
-use Rattle.wdt_units.specs.Blocks.{is_same}
-use Rattle.wdt_units.specs.LaneWords.{Claims}
-use Rattle.wdt_units.proofs.BlockCounts.{count_of-parts}
-use Rattle.wdt_units.specs.declared.place.Place.{Place}
-use Rattle.wdt_units.specs.declared.place.Place.TheVariants.{Queued, Held, Unconfirmed, Confirmed}
-use Rattle.wdt_units.specs.Claimed.{lane_at, count_in, count_kept, AreLanes, IsLane}
-use Rattle.wdt_units.specs.Places.{confirms, holds, is_among, is_queued, keeps, place_at, place_in, place_of}
-use Rattle.wdt_units.proofs.Found.{absent, among, among_first, among_last, counted_at, found, not_among, not_found, stands_at}
+use Rattle.wdt_claims.specs.Blocks.{is_same}
+use Rattle.wdt_claims.specs.LaneWords.{Claims}
+use Rattle.wdt_claims.proofs.Shared.{count_of-parts, absent, among, among_first, among_last, counted_at, found, not_among, not_found, stands_at}
+use Rattle.wdt_claims.specs.declared.place.Place.{Place}
+use Rattle.wdt_claims.specs.declared.place.Place.TheVariants.{Queued, Held, Unconfirmed, Confirmed}
+use Rattle.wdt_claims.specs.Claimed.{lane_at, count_in, count_kept, AreLanes, IsLane}
+use Rattle.wdt_claims.specs.Places.{confirms, holds, is_among, is_queued, keeps, place_at, place_in, place_of}
 use Rattle.wdt_history.proofs.Keeps.{count_kept-cons, count_kept-nil}
 
 -- the place by what the tests answer

@@ -1,13 +1,13 @@
 -- Checkpoints: what they keep, and what the finish makes of a list of lanes.
-use Rattle.std.proofs.Common.{◌≡◌, ℕ, ◌+◌, ◌<◌, ◌≤◌, false, List, [], ◌∷◌, ◌++◌, length, get_or, take, drop, map, set, Option, Some, None, is_some, refl, sym, ap, ◌∙◌, arith}
+use Rattle.std.proofs.Common.{◌≡◌, ℕ, ◌+◌, ◌<◌, ◌≤◌, List, [], ◌∷◌, ◌++◌, length, get_or, take, drop, map, set, Option, None, refl, sym, ap, ◌∙◌, arith}
 use Rattle.std.proofs.lemmas.Bool.Decides.{nat_tests}
 use Rattle.std.proofs.lemmas.List.{append_assoc, append-nil, drop_all, take_all, take_at, drop_more, get_or_at, length-map, length-take-le, map_more, set_at}
 use Rattle.wdt_units.specs.declared.blocks.Block.{Block}
-use Rattle.wdt_units.specs.Blocks.{count_of, HaveSameBlocks}
-use Rattle.wdt_units.specs.LaneWords.{Claims, cut_to, closed_at}
-use Rattle.wdt_units.proofs.BlockCounts.{count_of-append, count_of-parts}
-use Rattle.wdt_units.specs.Checks.{fault_by, fault_of, open_fault}
-use Rattle.wdt_units.specs.Claimed.{lane_at, with_lane, count_kept, IsLane, AreLanes}
+use Rattle.wdt_claims.specs.Blocks.{count_of, HaveSameBlocks}
+use Rattle.wdt_claims.specs.LaneWords.{Claims, cut_to, closed_at}
+use Rattle.wdt_claims.proofs.Shared.{count_of-append, count_of-parts}
+use Rattle.wdt_claims.specs.Checks.{fault_by, fault_of, open_fault}
+use Rattle.wdt_claims.specs.Claimed.{lane_at, with_lane, count_kept, IsLane, AreLanes}
 use Rattle.wdt_history.proofs.Keeps.{count_kept-with, is_at, lane_closed, lane_cut, lanes_with_fewer}
 
 -- a count that isn't refused is within the list of an open lane

@@ -1,8 +1,8 @@
 -- What a history is seen as, and what it keeps of each lane.
 use Rattle.std.specs.Prelude.{ℕ, ◌<◌, List, map, slice_index_or, Option, Some, None}
-use Rattle.wdt_units.specs.LaneWords.{Claims, no_claims, finished}
+use Rattle.wdt_claims.specs.LaneWords.{Claims, no_claims, finished}
 use Rattle.wdt_units.specs.declared.numbers.Lane.{Lane}
-use Rattle.wdt_units.specs.Claimed.{AreLanes}
+use Rattle.wdt_claims.specs.Claimed.{AreLanes}
 
 -- the claims of each lane, and the lane that can claim one more block without memory, if any
 pub record Book : Type 0 where

@@ -2,17 +2,18 @@
 ghost use Rattle.std.specs.Prelude.{◌≡◌, ◌+◌, ◌<◌, ◌≤◌, ◌^◌, ◌++◌, length, map, replicate, count_by, Some, None, IsOk, IsSome, is_some, OnOk, OnErr, IfOk, IsTrue};
 ghost use Rattle.std.specs.Result.{result_err};
 ghost use Rattle.wdt_units.specs.declared.blocks.Block.{Block as PlainBlock};
-ghost use Rattle.wdt_units.specs.Blocks.{are_rising, count_of, AreDistinct, HaveSameBlocks};
-ghost use Rattle.wdt_units.specs.LaneWords.{no_claims, claimed, sent, cut_to, closed_at, finished};
-ghost use Rattle.wdt_units.specs.Checks.{fault_of, goes_back};
-ghost use Rattle.wdt_units.specs.Claimed.{lane_at, with_lane, count_kept, is_held, AreLanes};
-ghost use Rattle.wdt_units.specs.Places.{place_of};
+ghost use Rattle.wdt_claims.specs.Blocks.{are_rising, count_of, AreDistinct, HaveSameBlocks};
+ghost use Rattle.wdt_claims.specs.LaneWords.{no_claims, claimed, sent, cut_to, closed_at, finished};
+ghost use Rattle.wdt_claims.specs.Checks.{fault_of, goes_back};
+ghost use Rattle.wdt_claims.specs.Claimed.{lane_at, with_lane, count_kept, is_held, AreLanes};
+ghost use Rattle.wdt_claims.specs.Places.{place_of};
 
 use crate::lane::LaneClaims;
 use std::alloc::Global;
 use std::marker::Model;
+use wdt_claims::{CheckFail, Place};
 use wdt_queue::Queue;
-use wdt_units::{Block, CheckFail, Lane, NoMemory, Place};
+use wdt_units::{Block, Lane, NoMemory};
 
 /// What the lanes of a sender have claimed, seen as a list with the claims of each, beside the lane that
 /// can claim a block without memory.

@@ -1,16 +1,17 @@
 //! The claims of one lane.
 ghost use Rattle.std.specs.Prelude.{◌≡◌, ℕ, ◌+◌, ◌<◌, ◌≤◌, ◌^◌, ◌++◌, length, drop, position, None, OnOk, OnErr, IsTrue};
 ghost use Rattle.std.specs.Result.{result_err};
-ghost use Rattle.wdt_units.specs.Blocks.{are_rising, is_same, AreDistinct, HaveSameBlocks};
-ghost use Rattle.wdt_units.specs.LaneWords.{no_claims, claimed, sent, cut_to, closed_at, finished};
-ghost use Rattle.wdt_units.specs.Checks.{fault_of};
-ghost use Rattle.wdt_units.specs.Claimed.{IsLane};
-ghost use Rattle.wdt_units.specs.Places.{place_at, place_in};
+ghost use Rattle.wdt_claims.specs.Blocks.{are_rising, is_same, AreDistinct, HaveSameBlocks};
+ghost use Rattle.wdt_claims.specs.LaneWords.{no_claims, claimed, sent, cut_to, closed_at, finished};
+ghost use Rattle.wdt_claims.specs.Checks.{fault_of};
+ghost use Rattle.wdt_claims.specs.Claimed.{IsLane};
+ghost use Rattle.wdt_claims.specs.Places.{place_at, place_in};
 
 use std::alloc::Global;
 use std::marker::Model;
+use wdt_claims::{CheckFail, Place};
 use wdt_queue::Queue;
-use wdt_units::{Block, CheckFail, NoMemory, Place};
+use wdt_units::{Block, NoMemory};
 
 /// What a lane has claimed.
 #[derive(Debug, Drop)]
@@ -210,7 +211,9 @@ fn index_of(blocks: &[Block], block: Block) -> Option<usize>
     blocks.iter().position(|other| block == *other)
 }
 
-// Puts blocks back into a queue that has room for them and none of them.
+// Puts blocks back into a queue that has room for them and none of them. The last goes first: a
+// lane claims in the queue's order, so each of its blocks then comes before all that wait, and no
+// other block moves.
 fn put_back(queue: &mut Queue, blocks: &[Block])
     requires room { length blocks.now ≤ queue.old.room }
     requires absent { AreDistinct (queue.old.waiting ++ blocks.now) }
@@ -218,7 +221,7 @@ fn put_back(queue: &mut Queue, blocks: &[Block])
     ensures rising { IsTrue (are_rising queue.old.waiting) → IsTrue (are_rising queue.new.waiting) }
     ensures room { queue.new.room + length blocks.now ≡ queue.old.room }
 {
-    for block in blocks {
-        queue.put_back(*block);
+    for left in (0..blocks.len()).rev() {
+        queue.put_back(blocks[left]);
     }
 }

@@ -2,10 +2,10 @@
 //! are the laws.
 ghost use Rattle.std.specs.Prelude.{◌≡◌, ◌↔◌, ℕ, List, Some, slice_get};
 ghost use Rattle.wdt_units.specs.declared.blocks.Block.{Block};
-ghost use Rattle.wdt_units.specs.LaneWords.{Claims};
-ghost use Rattle.wdt_units.specs.declared.place.Place.TheVariants.{Queued};
-ghost use Rattle.wdt_units.specs.Claimed.{count_kept, lane_at, AreLanes};
-ghost use Rattle.wdt_units.specs.Places.{place_at, place_of};
+ghost use Rattle.wdt_claims.specs.LaneWords.{Claims};
+ghost use Rattle.wdt_claims.specs.declared.place.Place.TheVariants.{Queued};
+ghost use Rattle.wdt_claims.specs.Claimed.{count_kept, lane_at, AreLanes};
+ghost use Rattle.wdt_claims.specs.Places.{place_at, place_of};
 
 /// A block that stands in a lane's list has the place of its index there.
 pub fn a_listed_block_has_the_place_of_its_index()

@@ -15,7 +15,7 @@ mod laws;
 
 pub use history::History;
 pub use laws::{a_listed_block_has_the_place_of_its_index, a_queued_block_is_in_no_list};
-pub use wdt_units::{CheckFail, Place};
+pub use wdt_claims::{CheckFail, Place};
 
 #[cfg(test)]
 mod tests;

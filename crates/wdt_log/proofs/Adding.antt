@@ -1,22 +1,20 @@
 -- The files of a log with an entry more, as the code keeps them.
-use Rattle.std.proofs.Common.{◌≡◌, inl, inr, ℕ, zero, suc, ◌+◌, ◌<◌, ◌≤◌, ◌^◌, Bool, true, false, ◌&&◌, not, nat_lt, nat_le, List, [], ◌∷◌, ◌++◌, length, get_or, map, take, drop, set, Option, Some, None, Result, Ok, Err, refl, sym, ap, ◌∙◌, subst, arith}
+use Rattle.std.proofs.Common.{◌≡◌, inl, inr, ℕ, zero, suc, ◌+◌, ◌<◌, ◌≤◌, ◌^◌, Bool, true, false, ◌&&◌, not, nat_lt, nat_le, List, [], ◌∷◌, ◌++◌, length, get_or, map, take, drop, Option, Some, None, Result, Ok, Err, refl, sym, ap, ◌∙◌, subst, arith}
 use Rattle.std.specs.Prelude.{if◌then◌else◌, ◌==◌, option_and_then, IsSome, OnOk}
 use Rattle.std.specs.List.{insert, list_all, list_any}
 use Rattle.std.specs.List.Sorted.{IsPartitionedBy, IsPartitionPoint}
-use Rattle.std.proofs.lemmas.Bool.{and_parts, or_cases, or_parts, cases_eq, ne_eqb, lt-ltb, le-ltb, ltb-true, ltb-false, leb-true, eqb-true, eqb-false}
+use Rattle.std.proofs.lemmas.Bool.{and_parts, or_cases, or_parts, cases_eq, lt-ltb, le-ltb, ltb-true, ltb-false, leb-true, eqb-false}
 use Rattle.std.proofs.lemmas.List.{take_more}
+use Rattle.std.proofs.lemmas.Option.{same_Some}
 use Rattle.wdt_units.specs.Have.{PlainSpan}
-use Rattle.wdt_ranges.specs.Files.{have_file}
-use Rattle.wdt_ranges.specs.Spans.{are_apart, end_of, is_span}
+use Rattle.wdt_ranges.specs.Spans.{end_of, is_span}
 use Rattle.wdt_ranges.proofs.Apart.{span_from}
 use Rattle.wdt_logfmt.specs.declared.entry.LogEntry.{LogEntry}
 use Rattle.wdt_logfmt.specs.declared.entry.LogEntry.TheVariants.{File as Named, Covered}
 use Rattle.wdt_logfmt.specs.declared.view.LogFile.{LogFile}
 use Rattle.wdt_logfmt.specs.Adding.{added, all_added, can_cover, can_name, covering, has_room, have_with, is_room_in, just_named, overlap, put_by_number, span_at, with_span}
-use Rattle.wdt_logfmt.specs.Spelling.{written_version}
 use Rattle.wdt_logfmt.specs.View.{NamedFile, is_file, is_numbered, is_numbered_above, is_rising, is_view, named_file, named_files}
-use Rattle.wdt_logfmt.proofs.Reread.{first_added}
-use Rattle.wdt_logfmt.proofs.Views.{can_cover-parts, file_parts, view_parts}
+use Rattle.wdt_logfmt.proofs.ForCallers.{can_cover-parts, file_parts, first_added, view_parts}
 use Rattle.wdt_log.specs.Places.{IsPlace}
 
 -- ---- where a number stands
@@ -96,26 +94,23 @@ pub some_is : {A : Type 0} (o : Option A) → IsSome o → (x : A) × (o ≡ Som
 some_is None some = absurd (cc)
 some_is (Some x) some = (x, refl)
 
-same_some : {A : Type 0} (x y : A) → Some x ≡ Some y → x ≡ y
-same_some x y e = cc
-
 some_first : (o : Option (List NamedFile)) (f : List NamedFile → Option (List NamedFile)) → IsSome (option_and_then f o) → IsSome o
 some_first None f s = s
 some_first (Some hs) f s = refl
 
 -- what comes next continues what there is
-pub continues_next : (fs gs : List NamedFile) (es : List LogEntry) (e : LogEntry) (more : List LogEntry) → all_added written_version fs es ≡ Some gs → IsSome (all_added written_version fs (es ++ e ∷ more)) → IsSome (added written_version gs e)
-continues_next fs gs [] e more is some =
-    subst (λ hs. IsSome (added written_version hs e)) (same_some fs gs is) (some_first (added written_version fs e) (λ hs. all_added written_version hs more) some)
-continues_next fs gs (x ∷ es) e more is some =
-    let first = first_added written_version fs gs x es is in
-    continues_next first.0 gs es e more first.2 (subst (λ o. IsSome (option_and_then (λ hs. all_added written_version hs (es ++ e ∷ more)) o)) first.1 some)
+pub continues_next : (version : ℕ) (fs gs : List NamedFile) (es : List LogEntry) (e : LogEntry) (more : List LogEntry) → all_added version fs es ≡ Some gs → IsSome (all_added version fs (es ++ e ∷ more)) → IsSome (added version gs e)
+continues_next version fs gs [] e more is some =
+    subst (λ hs. IsSome (added version hs e)) (same_Some fs gs is) (some_first (added version fs e) (λ hs. all_added version hs more) some)
+continues_next version fs gs (x ∷ es) e more is some =
+    let first = first_added version fs gs x es is in
+    continues_next version first.0 gs es e more first.2 (subst (λ o. IsSome (option_and_then (λ hs. all_added version hs (es ++ e ∷ more)) o)) first.1 some)
 
-pub added_next : (fs gs hs : List NamedFile) (es : List LogEntry) (e : LogEntry) → all_added written_version fs es ≡ Some gs → added written_version gs e ≡ Some hs → all_added written_version fs (es ++ e ∷ []) ≡ Some hs
-added_next fs gs hs [] e is next = ap (option_and_then (λ ks. all_added written_version ks [])) (ap (λ ks. added written_version ks e) (same_some fs gs is) ∙ next)
-added_next fs gs hs (x ∷ es) e is next =
-    let first = first_added written_version fs gs x es is in
-    ap (option_and_then (λ ks. all_added written_version ks (es ++ e ∷ []))) first.1 ∙ added_next first.0 gs hs es e first.2 next
+pub added_next : (version : ℕ) (fs gs hs : List NamedFile) (es : List LogEntry) (e : LogEntry) → all_added version fs es ≡ Some gs → added version gs e ≡ Some hs → all_added version fs (es ++ e ∷ []) ≡ Some hs
+added_next version fs gs hs [] e is next = ap (option_and_then (λ ks. all_added version ks [])) (ap (λ ks. added version ks e) (same_Some fs gs is) ∙ next)
+added_next version fs gs hs (x ∷ es) e is next =
+    let first = first_added version fs gs x es is in
+    ap (option_and_then (λ ks. all_added version ks (es ++ e ∷ []))) first.1 ∙ added_next version first.0 gs hs es e first.2 next
 
 -- the entries so far, the next, and those behind it
 pub split_at : (es : List LogEntry) (i : ℕ) (e : LogEntry) → i < length es → e ≡ get_or es i e → es ≡ take i es ++ e ∷ drop (suc i) es
@@ -130,13 +125,13 @@ taken_from : {A : Type 0} (b : Bool) (x : A) → IsSome (if b then Some x else N
 taken_from true x some = (refl, refl)
 taken_from false x some = absurd (cc)
 
-pub can_name-is : (fs : List NamedFile) (number : ℕ) (path : List ℕ) (size stamp : ℕ) → IsSome (added written_version fs (Named number path size stamp))
-    → (can_name fs number path size ≡ true) × (added written_version fs (Named number path size stamp) ≡ Some (put_by_number (just_named number path size stamp) fs))
-can_name-is fs number path size stamp some = taken_from (can_name fs number path size) (put_by_number (just_named number path size stamp) fs) some
+pub can_name-is : (version : ℕ) (fs : List NamedFile) (number : ℕ) (path : List ℕ) (size stamp : ℕ) → IsSome (added version fs (Named number path size stamp))
+    → (can_name fs number path size ≡ true) × (added version fs (Named number path size stamp) ≡ Some (put_by_number (just_named number path size stamp) fs))
+can_name-is version fs number path size stamp some = taken_from (can_name fs number path size) (put_by_number (just_named number path size stamp) fs) some
 
-pub can_cover-is : (fs : List NamedFile) (number offset count : ℕ) → IsSome (added written_version fs (Covered number offset count))
-    → (can_cover fs number (span_at offset count) ≡ true) × (added written_version fs (Covered number offset count) ≡ Some (map (covering number (span_at offset count)) fs))
-can_cover-is fs number offset count some = taken_from (can_cover fs number (span_at offset count)) (map (covering number (span_at offset count)) fs) some
+pub can_cover-is : (version : ℕ) (fs : List NamedFile) (number offset count : ℕ) → IsSome (added version fs (Covered number offset count))
+    → (can_cover fs number (span_at offset count) ≡ true) × (added version fs (Covered number offset count) ≡ Some (map (covering number (span_at offset count)) fs))
+can_cover-is version fs number offset count some = taken_from (can_cover fs number (span_at offset count)) (map (covering number (span_at offset count)) fs) some
 
 pub place_within : (n : ℕ) (fs : List LogFile) (at : ℕ) → IsPlace n (named_files fs) at → at ≤ length fs
 place_within n [] at place = omega (arith, place)

@@ -1,15 +1,13 @@
 -- What the log's calls leave alone: other files, and the count of slips.
-use Rattle.std.proofs.Common.{◌≡◌, ◌⊎◌, inl, inr, ℕ, ◌+◌, ◌≤◌, false, List, [], ◌∷◌, ◌++◌, length, Option, Some, None, Result, Ok, Err, refl, sym, ap, ◌∙◌, subst, arith, length-append}
-use Rattle.std.specs.Prelude.{IsErrOf, is_none, option_map}
-use Rattle.std.specs.Str.{bytes_eq}
+use Rattle.std.proofs.Common.{◌≡◌, inl, inr, ℕ, ◌+◌, List, [], ◌∷◌, ◌++◌, Option, Some, None, Result, Ok, Err, refl, sym, ap, ◌∙◌, subst, arith, length-append}
+use Rattle.std.specs.Prelude.{IsErrOf, is_none}
 use Rattle.wdt_depot.specs.Disk.{Disk, DiskFile, clean, made, place_file, with_file}
 use Rattle.wdt_depot.specs.Moments.{IfTold, MayDo, OneStep, Run, Told}
 use Rattle.wdt_depot.specs.State.{CountsSlip, SlipsWhere, State, lacks}
 use Rattle.wdt_depot.specs.declared.failure.DepotFail.{DepotFail}
 use Rattle.wdt_depot.specs.declared.failure.DepotFail.TheVariants.{Failed}
 use Rattle.wdt_units.specs.declared.numbers.Spot.{Spot}
-use Rattle.wdt_depot.proofs.Images.{with_file-other, with_file-same}
-use Rattle.wdt_depot.proofs.Slips.{placed_none}
+use Rattle.wdt_depot.proofs.ForCallers.{placed_none, with_file-other, with_file-same}
 use Rattle.wdt_good.specs.Good.{log_path, new_log_path}
 use Rattle.wdt_good.specs.LogState.{LogOf}
 use Rattle.wdt_logfmt.specs.View.{NamedFile}
@@ -109,17 +107,17 @@ making_stands (Err e) a b run = run_stands IsMaking IsMaking a b run making_keep
 
 -- ---- slips
 
-pub log_long : (fs : List NamedFile) (end : ℕ) (d : Disk) → LogOf fs end d → IsLong log_path (end + 1) d
+pub log_long : (version : ℕ) (fs : List NamedFile) (end : ℕ) (d : Disk) → LogOf version fs end d → IsLong log_path (end + 1) d
 unfolding clean
-log_long fs end d log = (clean (log.front ++ log.gate ∷ log.behind), log.file, (let place = log.place in omega (arith, place, length-append log.front (log.gate ∷ log.behind))))
+log_long version fs end d log = (clean (log.front ++ log.gate ∷ log.behind), log.file, (let place = log.place in omega (arith, place, length-append log.front (log.gate ∷ log.behind))))
 
-stand_at : (n m : ℕ) (fs : List NamedFile) (end : ℕ) (a : Option Told) → IfTold (λ t. LogOf fs end t.now) a → IfTold (λ t. IsLong log_path (end + 1) t.now → n ≡ m) a → IfTold (λ t. n ≡ m) a
-stand_at n m fs end None log long = tt
-stand_at n m fs end (Some t) log long = long (log_long fs end t.now log)
+stand_at : (version n m : ℕ) (fs : List NamedFile) (end : ℕ) (a : Option Told) → IfTold (λ t. LogOf version fs end t.now) a → IfTold (λ t. IsLong log_path (end + 1) t.now → n ≡ m) a → IfTold (λ t. n ≡ m) a
+stand_at version n m fs end None log long = tt
+stand_at version n m fs end (Some t) log long = long (log_long version fs end t.now log)
 
 -- where the log stands
-pub slips_stand : (fs : List NamedFile) (end : ℕ) (s t : State) → IfTold (λ u. LogOf fs end u.now) s.told → SlipsStandAt log_path (end + 1) s t → SlipsStand s t
-slips_stand fs end s t log long = stand_at t.slips s.slips fs end s.told log long
+pub slips_stand : (version : ℕ) (fs : List NamedFile) (end : ℕ) (s t : State) → IfTold (λ u. LogOf version fs end u.now) s.told → SlipsStandAt log_path (end + 1) s t → SlipsStand s t
+slips_stand version fs end s t log long = stand_at version t.slips s.slips fs end s.told log long
 
 needed : (path : List ℕ) (x : Unit {0}) (r : Result Spot DepotFail) (s1 s2 : State) (n : ℕ) (a b : Option Told) → OneStep (MayDo {E = DepotFail} (made path) (Ok x)) a b → s1.slips ≡ n → IfTold (λ t. CountsSlip (lacks path t.now) r (IsErrOf r Failed) s1 s2) b
     → IfTold (λ t. s2.slips ≡ n) a

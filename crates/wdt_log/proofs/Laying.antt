@@ -3,6 +3,7 @@ use Rattle.std.proofs.Common.{◌≡◌, inl, inr, ℕ, suc, ◌+◌, ◌<◌, B
 use Rattle.std.specs.Prelude.{if◌then◌else◌, ◌==◌, is_ok, option_and_then, option_map, IfSome, IsOk, IsSome, Result, Ok, Err}
 use Rattle.std.specs.List.{insert, list_all, list_any}
 use Rattle.std.proofs.lemmas.Bool.{and_parts, cases_eq, eq-eqb, eqb-true, ne_eqb}
+use Rattle.std.proofs.lemmas.Option.{same_Some}
 use Rattle.wdt_units.specs.Have.{HaveFile, PlainSpan}
 use Rattle.wdt_ranges.specs.Files.{have_file}
 use Rattle.wdt_ranges.specs.Spans.{are_apart, is_span}
@@ -10,10 +11,8 @@ use Rattle.wdt_logfmt.specs.declared.entry.LogEntry.{LogEntry}
 use Rattle.wdt_logfmt.specs.declared.entry.LogEntry.TheVariants.{File as Named, Covered}
 use Rattle.wdt_logfmt.specs.declared.view.LogFile.{LogFile}
 use Rattle.wdt_logfmt.specs.Adding.{added, all_added, has_room, have_with, is_room_in, just_named, put_by_number, span_at}
-use Rattle.wdt_logfmt.specs.Spelling.{written_version}
 use Rattle.wdt_logfmt.specs.View.{NamedFile, is_file, is_numbered_above, is_rising, is_view, named_files}
-use Rattle.wdt_logfmt.proofs.Lawful.{batch-view}
-use Rattle.wdt_logfmt.proofs.Views.{can_cover-parts, can_name-parts, file_parts, rising_put, view_parts}
+use Rattle.wdt_logfmt.proofs.ForCallers.{batch-view, can_cover-parts, can_name-parts, file_parts, rising_put, view_parts}
 use Rattle.wdt_log.specs.Places.{IsPlace, is_at}
 use Rattle.wdt_log.specs.Touched.{AreAdded, CanEnter, SameFiles, entered, laid, numbered, or_else}
 use Rattle.wdt_log.proofs.Adding.{some_is, added_next, can_cover-is, can_name-is, continues_next, entry_next, span_is, split_at}
@@ -61,10 +60,10 @@ touched_apart o x is apart = subst (λ (w : Option HaveFile). IfSome w (λ f. ar
 
 -- ---- what an entry is given
 
-pub named_fresh : (ts fs : List NamedFile) (n : ℕ) (path : List ℕ) (size stamp : ℕ) → CanEnter (laid ts fs) (Named n path size stamp) → numbered n ts ≡ None
-named_fresh ts fs n path size stamp can =
+pub named_fresh : (version : ℕ) (ts fs : List NamedFile) (n : ℕ) (path : List ℕ) (size stamp : ℕ) → CanEnter version (laid ts fs) (Named n path size stamp) → numbered n ts ≡ None
+named_fresh version ts fs n path size stamp can =
     let gs = can.0 in
-    let c = can_name-is gs n path size stamp can.3 in
+    let c = can_name-is version gs n path size stamp can.3 in
     let none = none_numbered n gs (can_name-parts gs n path size c.0).number in
     first (numbered n ts) (numbered n fs) (sym (can.2 n) ∙ none)
   where
@@ -89,11 +88,11 @@ room_there n s (f ∷ fs) each room =
           rw other (room_there n s fs e.1 rest)
     ]
 
-pub cover_there : (look : ℕ → Option HaveFile) (n offset count : ℕ) → CanEnter look (Covered n offset count) → CanCoverAt (look n) (span_at offset count)
-cover_there look n offset count can =
+pub cover_there : (version : ℕ) (look : ℕ → Option HaveFile) (n offset count : ℕ) → CanEnter version look (Covered n offset count) → CanCoverAt (look n) (span_at offset count)
+cover_there version look n offset count can =
     let gs = can.0 in
     let s = span_at offset count in
-    let c = can_cover-is gs n offset count can.3 in
+    let c = can_cover-is version gs n offset count can.3 in
     let v = view_parts gs can.1 in
     let r = room_there n s gs v.each (can_cover-parts gs n s c.0).room in
     record {
@@ -104,36 +103,33 @@ cover_there look n offset count can =
 
 -- ---- entry by entry
 
-front_some : (fs : List NamedFile) (es more : List LogEntry) → IsSome (all_added written_version fs (es ++ more)) → IsSome (all_added written_version fs es)
-front_some fs [] more some = refl
-front_some fs (e ∷ es) more some = go (added written_version fs e) (λ gs. front_some gs es more) some
+front_some : (version : ℕ) (fs : List NamedFile) (es more : List LogEntry) → IsSome (all_added version fs (es ++ more)) → IsSome (all_added version fs es)
+front_some version fs [] more some = refl
+front_some version fs (e ∷ es) more some = go (added version fs e) (λ gs. front_some version gs es more) some
   where
-    go : (o : Option (List NamedFile)) → ((gs : List NamedFile) → IsSome (all_added written_version gs (es ++ more)) → IsSome (all_added written_version gs es)) → IsSome (option_and_then (λ gs. all_added written_version gs (es ++ more)) o)
-        → IsSome (option_and_then (λ gs. all_added written_version gs es) o)
+    go : (o : Option (List NamedFile)) → ((gs : List NamedFile) → IsSome (all_added version gs (es ++ more)) → IsSome (all_added version gs es)) → IsSome (option_and_then (λ gs. all_added version gs (es ++ more)) o)
+        → IsSome (option_and_then (λ gs. all_added version gs es) o)
     go None rest is = absurd (cc)
     go (Some gs) rest is = rest gs is
 
 -- what comes next can be entered
-pub can_enter : (fs : List NamedFile) (es : List LogEntry) (i : ℕ) (e : LogEntry) (look : ℕ → Option HaveFile) → i < length es → e ≡ get_or es i e → is_view fs ≡ true → AreAdded fs (take i es) look → IsSome (all_added written_version fs es) → CanEnter look e
-can_enter fs es i e look lt is view so_far some =
+pub can_enter : (version : ℕ) (fs : List NamedFile) (es : List LogEntry) (i : ℕ) (e : LogEntry) (look : ℕ → Option HaveFile) → i < length es → e ≡ get_or es i e → is_view fs ≡ true → AreAdded version fs (take i es) look → IsSome (all_added version fs es) → CanEnter version look e
+can_enter version fs es i e look lt is view so_far some =
     let split = split_at es i e lt is in
-    let whole = subst (λ (w : List LogEntry). IsSome (all_added written_version fs w)) split some in
-    let front = some_is (all_added written_version fs (take i es)) (front_some fs (take i es) (e ∷ drop (suc i) es) whole) in
-    (front.0, batch-view written_version fs front.0 (take i es) view front.1, so_far front.0 front.1, continues_next fs front.0 (take i es) e (drop (suc i) es) front.1 whole)
+    let whole = subst (λ (w : List LogEntry). IsSome (all_added version fs w)) split some in
+    let front = some_is (all_added version fs (take i es)) (front_some version fs (take i es) (e ∷ drop (suc i) es) whole) in
+    (front.0, batch-view version fs front.0 (take i es) view front.1, so_far front.0 front.1, continues_next version fs front.0 (take i es) e (drop (suc i) es) front.1 whole)
 
 -- an entry was entered
-pub entered_next : (fs : List NamedFile) (es : List LogEntry) (i : ℕ) (e : LogEntry) (before after : ℕ → Option HaveFile) → i < length es → e ≡ get_or es i e → AreAdded fs (take i es) before → IsSome (all_added written_version fs es) → SameFiles (entered e before) after → AreAdded fs (take (i + 1) es) after
-entered_next fs es i e before after lt is so_far some next gs added_all n =
+pub entered_next : (version : ℕ) (fs : List NamedFile) (es : List LogEntry) (i : ℕ) (e : LogEntry) (before after : ℕ → Option HaveFile) → i < length es → e ≡ get_or es i e → AreAdded version fs (take i es) before → IsSome (all_added version fs es) → SameFiles (entered e before) after → AreAdded version fs (take (i + 1) es) after
+entered_next version fs es i e before after lt is so_far some next gs added_all n =
     let split = split_at es i e lt is in
-    let whole = subst (λ (w : List LogEntry). IsSome (all_added written_version fs w)) split some in
-    let front = some_is (all_added written_version fs (take i es)) (front_some fs (take i es) (e ∷ drop (suc i) es) whole) in
-    let one = some_is (added written_version front.0 e) (continues_next fs front.0 (take i es) e (drop (suc i) es) front.1 whole) in
-    let all = added_next fs front.0 one.0 (take i es) e front.1 one.1 in
-    let same : one.0 ≡ gs = some_alike (sym all ∙ ap (all_added written_version fs) (sym (entry_next es i e lt is)) ∙ added_all) in
-    ap (numbered n) (sym same) ∙ entered_files written_version front.0 one.0 e one.1 n ∙ entered_same e before (λ k. numbered k front.0) (so_far front.0 front.1) n ∙ sym (next n)
-  where
-    some_alike : {x y : List NamedFile} → Some x ≡ Some y → x ≡ y
-    some_alike e = cc
+    let whole = subst (λ (w : List LogEntry). IsSome (all_added version fs w)) split some in
+    let front = some_is (all_added version fs (take i es)) (front_some version fs (take i es) (e ∷ drop (suc i) es) whole) in
+    let one = some_is (added version front.0 e) (continues_next version fs front.0 (take i es) e (drop (suc i) es) front.1 whole) in
+    let all = added_next version fs front.0 one.0 (take i es) e front.1 one.1 in
+    let same : one.0 ≡ gs = same_Some one.0 gs (sym all ∙ ap (all_added version fs) (sym (entry_next es i e lt is)) ∙ added_all) in
+    ap (numbered n) (sym same) ∙ entered_files version front.0 one.0 e one.1 n ∙ entered_same e before (λ k. numbered k front.0) (so_far front.0 front.1) n ∙ sym (next n)
 
 -- ---- laid over all others
 
@@ -153,11 +149,11 @@ rising_rest t ts up = (and_parts (list_all (is_numbered_above t) ts) (is_rising 
 
 -- ---- the files of a batch
 
-pub all_laid : (fs hs : List NamedFile) (es : List LogEntry) (look : ℕ → Option HaveFile) → is_view fs ≡ true → IsSome (all_added written_version fs es) → AreAdded fs es look → is_rising hs ≡ true → SameFiles look (λ n. numbered n hs)
-    → (all_added written_version fs es ≡ Some hs) × (is_view hs ≡ true)
-all_laid fs hs es look view some added_all up same =
-    let all = some_is (all_added written_version fs es) some in
-    let lawful = batch-view written_version fs all.0 es view all.1 in
+pub all_laid : (version : ℕ) (fs hs : List NamedFile) (es : List LogEntry) (look : ℕ → Option HaveFile) → is_view fs ≡ true → IsSome (all_added version fs es) → AreAdded version fs es look → is_rising hs ≡ true → SameFiles look (λ n. numbered n hs)
+    → (all_added version fs es ≡ Some hs) × (is_view hs ≡ true)
+all_laid version fs hs es look view some added_all up same =
+    let all = some_is (all_added version fs es) some in
+    let lawful = batch-view version fs all.0 es view all.1 in
     let alike : all.0 ≡ hs = same_by_number all.0 hs (view_parts all.0 lawful).rising up (λ n. added_all all.0 all.1 n ∙ sym (same n)) in
     (all.1 ∙ ap Some alike, ap is_view (sym alike) ∙ lawful)
 

@@ -1,33 +1,27 @@
 -- A log is made, or one that is there is synced.
-use Rattle.std.proofs.Common.{◌≡◌, ◌⊎◌, inl, inr, ℕ, ◌<◌, length, length-append, List, [], ◌∷◌, ◌++◌, Bool, true, false, Option, Some, None, Result, Ok, refl, sym, ap, ◌∙◌, subst, arith}
-use Rattle.std.specs.Prelude.{Err, IfOk, if◌then◌else◌, option_map}
+use Rattle.std.proofs.Common.{◌≡◌, ◌⊎◌, inl, inr, ℕ, ◌<◌, length, length-append, List, [], ◌∷◌, true, false, Option, Some, None, Result, Ok, refl, sym, ap, ◌∙◌, subst, arith}
+use Rattle.std.specs.Prelude.{Err, IfOk, option_map}
 use Rattle.std.specs.Result.{IsErrAnd}
 use Rattle.std.specs.Str.{bytes_eq}
 use Rattle.wdt_units.specs.Tree.{File}
 use Rattle.wdt_depot.specs.Disk.{Disk, DiskFile, Image, IsImage, IsSoundDisk, MayLeave, clean, made, place_file, placed, seen_of, sync_file, synced_at, with_file, write_file, wrote}
 use Rattle.wdt_depot.specs.Moments.{IfTold, Run, Told}
-use Rattle.wdt_depot.proofs.Images.{image_of_clean, seen_is_image, synced_images, with_file-other, with_file-same}
-use Rattle.wdt_depot.proofs.Moments.{since_weaker}
+use Rattle.wdt_depot.proofs.ForCallers.{image_of_clean, run_as, run_join, seen_is_image, since_weaker, synced_images, with_file-other, with_file-same}
 use Rattle.wdt_logfmt.specs.Meaning.{log_meaning}
-use Rattle.wdt_logfmt.specs.Spelling.{header, new_log}
+use Rattle.wdt_logfmt.specs.Spelling.{header, new_log, written_version}
 use Rattle.wdt_logfmt.specs.declared.view.LogView.{LogView}
 use Rattle.wdt_logfmt.specs.View.{Meaning, NamedFile, is_view, meaning_of, names}
-use Rattle.wdt_logfmt.proofs.Prefix.{ends}
-use Rattle.wdt_logfmt.proofs.Reach.{means-closed, reaches-header}
-use Rattle.wdt_logfmt.proofs.Views.{view_none}
+use Rattle.wdt_logfmt.proofs.ForCallers.{ends, means-closed, reaches-header, view_none}
 use Rattle.wdt_good.specs.Good.{GoodFiles, IsGood, covers, log_of, log_path, meaning_in, new_log_path}
-use Rattle.wdt_good.specs.LogState.{LogOf}
+use Rattle.wdt_good.specs.LogState.{LogOf, SaysAs}
 use Rattle.wdt_good.specs.Logged.{AllFit, AllGood, GoodSince, IsRemembered, LoggedAt, LoggedName}
-use Rattle.wdt_good.proofs.Images.{fit_good, ok_files}
 use Rattle.wdt_depot.specs.Disk.{IfFile}
 use Rattle.wdt_depot.specs.Moments.{MayDo, OneStep}
 use Rattle.wdt_depot.specs.declared.failure.DepotFail.{DepotFail}
-use Rattle.wdt_depot.proofs.Moments.{run_as, run_join}
 use Rattle.wdt_units.specs.declared.failures.Failed.{Failed}
-use Rattle.std.proofs.lemmas.Bool.{eq-eqb}
 use Rattle.wdt_units.specs.Path.{is_lawful}
-use Rattle.wdt_units.proofs.Lawful.{lawful-is}
-use Rattle.wdt_depot.specs.State.{State, at_spot, path_of, path_or}
+use Rattle.wdt_units.proofs.Shared.{lawful-is}
+use Rattle.wdt_good.proofs.ForCallers.{fit_good, ok_files}
 use Rattle.wdt_log.specs.declared.fail.LogFail.{LogFail}
 use Rattle.wdt_log.specs.declared.fail.LogFail.TheVariants.{Disk as DiskFail, BadLog, Shut, NoMemory}
 use Rattle.wdt_log.specs.Opening.{IsMaking, IsSyncing, Makes, Syncs, made_new, placed_new, synced_new, written_new}
@@ -121,9 +115,8 @@ module _ (d : Disk) (none : d log_path ≡ None) where
   pub making_good : (T : List File) → IsSoundDisk d → (x : Disk) → IsMaking d x → AllGood T [] d x
   making_good T sound x at i image = nothing_good T d i none sound (making_means x at i image)
 
-  pub placed_rests : LogOf [] 6 (placed_new d)
+  pub placed_rests : LogOf written_version [] 6 (placed_new d)
   placed_rests = record {
-    version = 1;
     front = header 1;
     gate = 0;
     behind = [];
@@ -140,11 +133,11 @@ made_since T Q None (Some u) run sound none = absurd run
 made_since T Q (Some t) None run sound none = absurd run
 made_since T Q (Some t) (Some u) run sound none = since_weaker (IsMaking t.now) (AllGood T [] t.now) (Some t) (Some u) (λ x at. making_good t.now none T sound x at) run.0
 
-pub made_rests : (a b : Option Told) → Run IsMaking (λ d x. x ≡ placed_new d) a b → IfTold (λ t. t.now log_path ≡ None) a → IfTold (λ t. LogOf [] 6 t.now) b
+pub made_rests : (a b : Option Told) → Run IsMaking (λ d x. x ≡ placed_new d) a b → IfTold (λ t. t.now log_path ≡ None) a → IfTold (λ t. LogOf written_version [] 6 t.now) b
 made_rests None None run none = tt
 made_rests None (Some u) run none = absurd run
 made_rests (Some t) None run none = absurd run
-made_rests (Some t) (Some u) run none = subst (LogOf [] 6) (sym run.1) (placed_rests t.now none)
+made_rests (Some t) (Some u) run none = subst (LogOf written_version [] 6) (sym run.1) (placed_rests t.now none)
 
 -- ---- a log that is there
 
@@ -162,11 +155,10 @@ read_there : (o : Option DiskFile) (bytes : List ℕ) → option_map (λ f. f.se
 read_there None bytes is = absurd (cc)
 read_there (Some s) bytes is = let same : s.seen ≡ bytes = cc in ap (λ (l : List ℕ). Some (clean l)) same
 
-synced_rests : (bytes : List ℕ) (m : Meaning) (d : Disk) → log_meaning bytes ≡ Ok m → is_view m.files ≡ true → seen_of d log_path ≡ Some bytes → LogOf m.files m.end (synced_at log_path d)
+synced_rests : (bytes : List ℕ) (m : Meaning) (d : Disk) → log_meaning bytes ≡ Ok m → is_view m.files ≡ true → seen_of d log_path ≡ Some bytes → LogOf written_version m.files m.end (synced_at log_path d)
 synced_rests bytes m d means view reads =
     let last = ends bytes m means in
     record {
-      version = last.version;
       front = last.front;
       gate = last.gate;
       behind = last.behind;
@@ -178,11 +170,22 @@ synced_rests bytes m d means view reads =
     }
 
 pub found_rests : (bytes : List ℕ) (m : Meaning) (a b : Option Told) → log_meaning bytes ≡ Ok m → is_view m.files ≡ true → IfTold (λ t. seen_of t.now log_path ≡ Some bytes) a → Run IsSyncing (λ d x. x ≡ synced_at log_path d) a b
-    → IfTold (λ t. LogOf m.files m.end t.now) b
+    → IfTold (λ t. LogOf written_version m.files m.end t.now) b
 found_rests bytes m None None means view reads run = tt
 found_rests bytes m None (Some u) means view reads run = absurd run
 found_rests bytes m (Some t) None means view reads run = absurd run
-found_rests bytes m (Some t) (Some u) means view reads run = subst (LogOf m.files m.end) (sym run.1) (synced_rests bytes m t.now means view reads)
+found_rests bytes m (Some t) (Some u) means view reads run = subst (LogOf written_version m.files m.end) (sym run.1) (synced_rests bytes m t.now means view reads)
+
+-- what is found says what the log of the disk says
+pub found_says : (bytes : List ℕ) (m : Meaning) (a : Option Told) → log_meaning bytes ≡ Ok m → IfTold (λ t. seen_of t.now log_path ≡ Some bytes) a → IfTold (λ t. SaysAs (seen_of t.now) m.files) a
+found_says bytes m None means reads = tt
+found_says bytes m (Some t) means reads = record { meaning = m; means = ap meaning_in reads ∙ means; have = refl; named = λ path. refl; covered = λ path k. refl }
+
+pub none_says : (m : Meaning) (a : Option Told) → m ≡ record { files = []; end = 6 } → IfTold (λ t. t.now log_path ≡ None) a → IfTold (λ t. SaysAs (seen_of t.now) m.files) a
+none_says m None is none = tt
+none_says m (Some t) is none =
+    subst (λ (n : Meaning). SaysAs (seen_of t.now) n.files) (sym is)
+    (record { meaning = record { files = []; end = 0 }; means = ap (λ (o : Option DiskFile). meaning_in (option_map (λ (f : DiskFile). f.seen) o)) none; have = refl; named = λ path. refl; covered = λ path k. refl })
 
 -- ---- the calls of an opening
 
@@ -231,11 +234,6 @@ end_within bytes m means =
     let last = ends bytes m means in
     let place = last.place in
     omega (arith, place, ap length last.split, length-append last.front (last.gate ∷ last.behind))
-
-pub at_needed : (spot : ℕ) (path : List ℕ) (s t : State) → s.spots ≡ [] → t.spots ≡ s.spots ++ (spot, path) ∷ [] → at_spot spot t ≡ path
-at_needed spot path s t none is =
-    ap (λ (es : List (ℕ × List ℕ)). path_or (path_of spot es)) (is ∙ ap (λ (es : List (ℕ × List ℕ)). es ++ (spot, path) ∷ []) none)
-    ∙ ap (λ (b : Bool). path_or (if b then Some path else None)) (eq-eqb spot spot refl)
 
 -- ---- the calls of a making
 
@@ -298,6 +296,6 @@ is_placed x source target a b c one two run step =
 
 -- the log that was made is at rest
 pub made_logged : (r : Result LogView LogFail) (a b : Option Told) → Run IsMaking (Makes r) a b → IfTold (λ t. t.now log_path ≡ None) a → IfOk r (λ view. meaning_of view ≡ record { files = []; end = 6 })
-    → IfOk r (λ view. IfTold (λ t. LogOf (meaning_of view).files (meaning_of view).end t.now) b)
-made_logged (Ok view) a b run none is = subst (λ (m : Meaning). IfTold (λ t. LogOf m.files m.end t.now) b) (sym is) (made_rests a b run none)
+    → IfOk r (λ view. IfTold (λ t. LogOf written_version (meaning_of view).files (meaning_of view).end t.now) b)
+made_logged (Ok view) a b run none is = subst (λ (m : Meaning). IfTold (λ t. LogOf written_version m.files m.end t.now) b) (sym is) (made_rests a b run none)
 made_logged (Err e) a b run none is = tt

@@ -10,7 +10,7 @@ use Rattle.wdt_logfmt.specs.declared.entry.LogEntry.TheVariants.{File as Named, 
 use Rattle.wdt_logfmt.specs.declared.view.LogFile.{LogFile}
 use Rattle.wdt_logfmt.specs.Adding.{added, can_cover, can_name, covering, have_with, just_named, put_by_number, span_at}
 use Rattle.wdt_logfmt.specs.View.{NamedFile, is_numbered, is_numbered_above, is_rising, named_file, named_files}
-use Rattle.wdt_logfmt.proofs.Views.{can_name-parts, rising_put}
+use Rattle.wdt_logfmt.proofs.ForCallers.{can_name-parts, rising_put}
 use Rattle.wdt_log.specs.Places.{IsPlace, is_at}
 use Rattle.wdt_log.specs.Touched.{SameFiles, entered, numbered}
 use Rattle.wdt_log.proofs.Adding.{put_at}

@@ -1,46 +1,30 @@
 -- At each stage of an append each image is good, and at the last the log means the files with the batch.
 use Rattle.std.proofs.Common.{◌≡◌, ◌⊎◌, inl, inr, ℕ, ◌+◌, ◌<◌, ◌^◌, List, [], ◌∷◌, ◌++◌, length, drop, Option, Some, None, refl, sym, ap, ◌∙◌, subst, arith, append_assoc, length-append}
-use Rattle.std.specs.Prelude.{option_map, option_and_then, IsSome}
+use Rattle.std.specs.Prelude.{option_map, IsSome}
 use Rattle.std.proofs.lemmas.Bool.{cases_eq}
 use Rattle.wdt_units.specs.Tree.{File}
 use Rattle.wdt_depot.specs.Disk.{Disk, DiskFile, IsFileImage, IsSoundDisk, clean, sync_file, with_file, write_file}
 use Rattle.wdt_depot.specs.Moments.{IfTold, Run, Told}
-use Rattle.wdt_depot.proofs.Images.{image_of_clean, with_file-other, with_file-same}
-use Rattle.wdt_depot.proofs.Moments.{since_now, since_weaker}
+use Rattle.wdt_depot.proofs.ForCallers.{image_of_clean, since_now, since_weaker, with_file-other, with_file-same}
 use Rattle.wdt_logfmt.specs.declared.entry.LogEntry.{LogEntry}
-use Rattle.wdt_logfmt.specs.declared.entry.LogEntry.TheVariants.{File as Named, Covered}
-use Rattle.wdt_logfmt.specs.Adding.{added, all_added}
+use Rattle.wdt_logfmt.specs.Adding.{all_added}
 use Rattle.wdt_logfmt.specs.Meaning.{log_meaning}
-use Rattle.wdt_logfmt.specs.Spelling.{AllFit as AllSpelled, batch_body, closed_batch, spell_all, written_version}
+use Rattle.wdt_logfmt.specs.Spelling.{AllFit as AllSpelled, batch_body, closed_batch, spell_all}
 use Rattle.wdt_logfmt.specs.View.{NamedFile}
-use Rattle.wdt_logfmt.proofs.Reach.{means-closed, means-torn, reaches-batch}
+use Rattle.wdt_logfmt.proofs.ForCallers.{batch-view, means-closed, means-torn, reaches-batch}
+use Rattle.wdt_good.specs.Batch.{forgotten_of}
 use Rattle.wdt_good.specs.Good.{log_path}
 use Rattle.wdt_good.specs.Leading.{HasLog, MeansEither}
 use Rattle.wdt_good.specs.LogState.{IsReady, LogOf}
 use Rattle.wdt_good.specs.Logged.{AllGood, GoodSince}
-use Rattle.wdt_good.proofs.Files.{batch_view}
-use Rattle.wdt_good.proofs.Images.{log_is_good, ready_leads}
 use Rattle.wdt_depot.specs.State.{State}
+use Rattle.wdt_good.proofs.ForCallers.{log_is_good, ready_leads}
 use Rattle.wdt_log.specs.Answers.{IsNotBad, IsOfDepot}
 use Rattle.wdt_log.specs.declared.fail.LogFail.{LogFail}
 use Rattle.wdt_log.specs.declared.fail.LogFail.TheVariants.{Disk as DiskFail, BadLog, Shut, NoMemory}
 use Rattle.wdt_log.specs.Stages.{IsStage, opened, opening, staged, written}
 use Rattle.wdt_log.proofs.Adding.{some_is}
 use Rattle.wdt_log.proofs.Torn.{left_behind, left_gate, over, over_behind}
-
--- ---- versions differ in nothing yet
-
-added-any : (v w : ℕ) (fs : List NamedFile) (e : LogEntry) → added v fs e ≡ added w fs e
-added-any v w fs (Named n path size stamp) = refl
-added-any v w fs (Covered n offset count) = refl
-
-alike : (b : Option (List NamedFile)) (f g : List NamedFile → Option (List NamedFile)) → ((gs : List NamedFile) → f gs ≡ g gs) → option_and_then f b ≡ option_and_then g b
-alike None f g each = refl
-alike (Some gs) f g each = each gs
-
-all_added-any : (v w : ℕ) (fs : List NamedFile) (es : List LogEntry) → all_added v fs es ≡ all_added w fs es
-all_added-any v w fs [] = refl
-all_added-any v w fs (e ∷ es) = ap (option_and_then (λ gs. all_added v gs es)) (added-any v w fs e) ∙ alike (added w fs e) (λ gs. all_added v gs es) (λ gs. all_added w gs es) (λ gs. all_added-any v w gs es)
 
 -- ---- a change of the log alone
 
@@ -51,13 +35,13 @@ log_change d e s g has = record {
 }
 
 -- ---- what an append is given
-pub record IsBatch (fs gs : List NamedFile) (es : List LogEntry) (bytes : List ℕ) : Type 0 where
+pub record IsBatch (version : ℕ) (fs gs : List NamedFile) (es : List LogEntry) (bytes : List ℕ) : Type 0 where
   pub spelled : bytes ≡ closed_batch es
   pub small : length (spell_all es) < 2 ^ 32
   pub fits : AllSpelled es
-  pub adds : all_added written_version fs es ≡ Some gs
+  pub adds : all_added version fs es ≡ Some gs
 
-module _ (fs gs : List NamedFile) (es : List LogEntry) (bytes : List ℕ) (batch : IsBatch fs gs es bytes) (end : ℕ) (d : Disk) (log : LogOf fs end d) where
+module _ (version : ℕ) (fs gs : List NamedFile) (es : List LogEntry) (bytes : List ℕ) (batch : IsBatch version fs gs es bytes) (end : ℕ) (d : Disk) (log : LogOf version fs end d) where
   before : List ℕ
   before = log.front ++ log.gate ∷ log.behind
 
@@ -70,9 +54,6 @@ module _ (fs gs : List NamedFile) (es : List LogEntry) (bytes : List ℕ) (batch
 
   open_log : List ℕ
   open_log = log.front ++ 1 ∷ (bytes ++ rest)
-
-  adds : all_added log.version fs es ≡ Some gs
-  adds = all_added-any log.version written_version fs es ∙ batch.adds
 
   -- ---- the log's file at each stage
 
@@ -103,7 +84,7 @@ module _ (fs gs : List NamedFile) (es : List LogEntry) (bytes : List ℕ) (batch
   -- ---- what a crash leaves of it
 
   closed_means : (gate : ℕ) (more b : List ℕ) → b ≡ log.front ++ gate ∷ more → (gate ≡ 1 → ⊥) → MeansEither fs gs b
-  closed_means gate more b is shut = (record { files = fs; end = length log.front }, ap log_meaning is ∙ means-closed log.version log.front fs gate more log.reaches shut, inl refl)
+  closed_means gate more b is shut = (record { files = fs; end = length log.front }, ap log_meaning is ∙ means-closed version log.front fs gate more log.reaches shut, inl refl)
 
   spelled : bytes ++ rest ≡ batch_body es ++ 0 ∷ rest
   spelled = ap (λ (l : List ℕ). l ++ rest) batch.spelled ∙ append_assoc (batch_body es) (0 ∷ []) rest
@@ -112,7 +93,7 @@ module _ (fs gs : List NamedFile) (es : List LogEntry) (bytes : List ℕ) (batch
   unfolding open_log
   open_means b is = (
     record { files = gs; end = length (log.front ++ 1 ∷ batch_body es) },
-    ap log_meaning (is ∙ ap (λ (l : List ℕ). log.front ++ 1 ∷ l) spelled) ∙ means-torn log.version log.front fs gs es rest log.reaches batch.small batch.fits adds,
+    ap log_meaning (is ∙ ap (λ (l : List ℕ). log.front ++ 1 ∷ l) spelled) ∙ means-torn version log.front fs gs es rest log.reaches batch.small batch.fits batch.adds,
     inr refl,
   )
 
@@ -142,13 +123,12 @@ module _ (fs gs : List NamedFile) (es : List LogEntry) (bytes : List ℕ) (batch
 
   -- ---- the log at rest again
 
-  pub first_rests : LogOf fs end d
+  pub first_rests : LogOf version fs end d
   first_rests = log
 
-  pub staged_rests : LogOf fs end (staged end bytes d)
+  pub staged_rests : LogOf version fs end (staged end bytes d)
   unfolding closed_log
   staged_rests = record {
-    version = log.version;
     front = log.front;
     gate = log.gate;
     behind = bytes ++ rest;
@@ -163,29 +143,28 @@ module _ (fs gs : List NamedFile) (es : List LogEntry) (bytes : List ℕ) (batch
   unfolding open_log
   opened_bytes = ap (λ (l : List ℕ). log.front ++ 1 ∷ l) spelled ∙ sym (append_assoc log.front (1 ∷ batch_body es) (0 ∷ rest))
 
-  pub opened_rests : LogOf gs (end + length bytes) (opened end bytes d)
+  pub opened_rests : LogOf version gs (end + length bytes) (opened end bytes d)
   opened_rests = record {
-    version = log.version;
     front = log.front ++ 1 ∷ batch_body es;
     gate = 0;
     behind = rest;
     file = has_opened.file ∙ ap (λ (l : List ℕ). Some (clean l)) opened_bytes;
     place = (let place = log.place in omega (arith, length-append log.front (1 ∷ batch_body es), length-append (batch_body es) (0 ∷ []), ap length batch.spelled));
     closed = λ e. omega arith;
-    reaches = reaches-batch log.version log.front fs gs es log.reaches batch.small batch.fits adds;
-    view = batch_view fs gs es log.view batch.adds;
+    reaches = reaches-batch version log.front fs gs es log.reaches batch.small batch.fits batch.adds;
+    view = batch-view version fs gs es log.view batch.adds;
   }
 
   -- ---- each stage is good
 
-  module _ (T : List File) (sound : IsSoundDisk d) (ready : IsReady T fs gs es d) where
-    good_at : (x : Disk) (file : DiskFile) → HasLog d file x → ((b : List ℕ) → IsFileImage file b → MeansEither fs gs b) → AllGood T [] d x
-    good_at x file has leaves = log_is_good T [] fs gs end d x file sound log (ready_leads T [] fs gs es d log.view ready) has leaves
+  module _ (T : List File) (sound : IsSoundDisk d) (ready : IsReady version T fs gs es d) where
+    good_at : (x : Disk) (file : DiskFile) → HasLog d file x → ((b : List ℕ) → IsFileImage file b → MeansEither fs gs b) → AllGood T (forgotten_of es) d x
+    good_at x file has leaves = log_is_good version T (forgotten_of es) fs gs end d x file sound log (ready_leads version T (forgotten_of es) fs gs es d log.view ready) has leaves
 
     abbrev IsGoodAt : Disk → Type 0
-    IsGoodAt x = AllGood T [] d x
+    IsGoodAt x = AllGood T (forgotten_of es) d x
 
-    pub stage_good : (x : Disk) → IsStage end bytes d x → AllGood T [] d x
+    pub stage_good : (x : Disk) → IsStage end bytes d x → AllGood T (forgotten_of es) d x
     stage_good x (inl is) = subst IsGoodAt (sym is) (good_at d (clean before) has_first first_leaves)
     stage_good x (inr (inl is)) = subst IsGoodAt (sym is) (good_at (written end bytes d) (write_file (end + 1) bytes (clean before)) has_written written_leaves)
     stage_good x (inr (inr (inl is))) = subst IsGoodAt (sym is) (good_at (staged end bytes d) (clean closed_log) has_staged staged_leaves)
@@ -194,51 +173,51 @@ module _ (fs gs : List NamedFile) (es : List LogEntry) (bytes : List ℕ) (batch
 
 -- ---- told
 
-module _ (fs gs : List NamedFile) (es : List LogEntry) (bytes : List ℕ) (batch : IsBatch fs gs es bytes) (end : ℕ) where
-  pub good_since : (T : List File) (Q : Disk → Disk → Type 0) (a b : Option Told) → Run (IsStage end bytes) Q a b → IfTold (λ t. IsSoundDisk t.now) a → IfTold (λ t. LogOf fs end t.now) a → IfTold (λ t. IsReady T fs gs es t.now) a → GoodSince T [] a b
+module _ (version : ℕ) (fs gs : List NamedFile) (es : List LogEntry) (bytes : List ℕ) (batch : IsBatch version fs gs es bytes) (end : ℕ) where
+  pub good_since : (T : List File) (Q : Disk → Disk → Type 0) (a b : Option Told) → Run (IsStage end bytes) Q a b → IfTold (λ t. IsSoundDisk t.now) a → IfTold (λ t. LogOf version fs end t.now) a → IfTold (λ t. IsReady version T fs gs es t.now) a → GoodSince T (forgotten_of es) a b
   good_since T Q None None run sound log ready = tt
   good_since T Q None (Some u) run sound log ready = absurd run
   good_since T Q (Some t) None run sound log ready = absurd run
   good_since T Q (Some t) (Some u) run sound log ready =
-      since_weaker (IsStage end bytes t.now) (AllGood T [] t.now) (Some t) (Some u) (λ x at. stage_good fs gs es bytes batch end t.now log T sound ready x at) run.0
+      since_weaker (IsStage end bytes t.now) (AllGood T (forgotten_of es) t.now) (Some t) (Some u) (λ x at. stage_good version fs gs es bytes batch end t.now log T sound ready x at) run.0
 
-  pub opened_after : (a b : Option Told) → Run (IsStage end bytes) (λ d x. x ≡ opened end bytes d) a b → IfTold (λ t. LogOf fs end t.now) a → IfTold (λ t. LogOf gs (end + length bytes) t.now) b
+  pub opened_after : (a b : Option Told) → Run (IsStage end bytes) (λ d x. x ≡ opened end bytes d) a b → IfTold (λ t. LogOf version fs end t.now) a → IfTold (λ t. LogOf version gs (end + length bytes) t.now) b
   opened_after None None run log = tt
   opened_after None (Some u) run log = absurd run
   opened_after (Some t) None run log = absurd run
-  opened_after (Some t) (Some u) run log = subst (LogOf gs (end + length bytes)) (sym run.1) (opened_rests fs gs es bytes batch end t.now log)
+  opened_after (Some t) (Some u) run log = subst (LogOf version gs (end + length bytes)) (sym run.1) (opened_rests version fs gs es bytes batch end t.now log)
 
-  pub same_after : (a b : Option Told) → Run (IsStage end bytes) (λ d x. (x ≡ d) ⊎ (x ≡ staged end bytes d)) a b → IfTold (λ t. LogOf fs end t.now) a → IfTold (λ t. LogOf fs end t.now) b
+  pub same_after : (a b : Option Told) → Run (IsStage end bytes) (λ d x. (x ≡ d) ⊎ (x ≡ staged end bytes d)) a b → IfTold (λ t. LogOf version fs end t.now) a → IfTold (λ t. LogOf version fs end t.now) b
   same_after None None run log = tt
   same_after None (Some u) run log = absurd run
   same_after (Some t) None run log = absurd run
   same_after (Some t) (Some u) run log = elim run.1 [
-    | inl is ↦ subst (LogOf fs end) (sym is) log
-    | inr is ↦ subst (LogOf fs end) (sym is) (staged_rests fs gs es bytes batch end t.now log)
+    | inl is ↦ subst (LogOf version fs end) (sym is) log
+    | inr is ↦ subst (LogOf version fs end) (sym is) (staged_rests version fs gs es bytes batch end t.now log)
   ]
 
 -- ---- an append as its caller sees it
 
-module _ (fs : List NamedFile) (es : List LogEntry) (end : ℕ) (small : length (spell_all es) < 2 ^ 32) where
-  batch_of : (gs : List NamedFile) → AllSpelled es → all_added written_version fs es ≡ Some gs → IsBatch fs gs es (closed_batch es)
+module _ (version : ℕ) (fs : List NamedFile) (es : List LogEntry) (end : ℕ) (small : length (spell_all es) < 2 ^ 32) where
+  batch_of : (gs : List NamedFile) → AllSpelled es → all_added version fs es ≡ Some gs → IsBatch version fs gs es (closed_batch es)
   batch_of gs fits adds = record { spelled = refl; small = small; fits = fits; adds = adds }
 
   pub append_good : (T : List File) (gs : List NamedFile) (Q : Disk → Disk → Type 0) (a b : Option Told) → AllSpelled es ⊎ (b ≡ a) → Run (IsStage end (closed_batch es)) Q a b
-      → IfTold (λ t. IsSoundDisk t.now) a → IfTold (λ t. LogOf fs end t.now) a → IfTold (λ t. IsReady T fs gs es t.now) a → GoodSince T [] a b
+      → IfTold (λ t. IsSoundDisk t.now) a → IfTold (λ t. LogOf version fs end t.now) a → IfTold (λ t. IsReady version T fs gs es t.now) a → GoodSince T (forgotten_of es) a b
   append_good T gs Q None None fits run sound log ready = tt
   append_good T gs Q None (Some u) fits run sound log ready = absurd run
   append_good T gs Q (Some t) None fits run sound log ready = absurd run
-  append_good T gs Q (Some t) (Some u) (inl fits) run sound log ready = good_since fs gs es (closed_batch es) (batch_of gs fits ready.adds) end T Q (Some t) (Some u) run sound log ready
-  append_good T gs Q (Some t) (Some u) (inr same) run sound log ready = subst (λ (x : Option Told). GoodSince T [] (Some t) x) (sym same) (since_now (λ d. AllGood T [] t.now d) (Some t))
+  append_good T gs Q (Some t) (Some u) (inl fits) run sound log ready = good_since version fs gs es (closed_batch es) (batch_of gs fits ready.adds) end T Q (Some t) (Some u) run sound log ready
+  append_good T gs Q (Some t) (Some u) (inr same) run sound log ready = subst (λ (x : Option Told). GoodSince T (forgotten_of es) (Some t) x) (sym same) (since_now (λ d. AllGood T (forgotten_of es) t.now d) (Some t))
 
-  pub append_logged : (gs : List NamedFile) (a b : Option Told) → AllSpelled es → all_added written_version fs es ≡ Some gs → Run (IsStage end (closed_batch es)) (λ d x. x ≡ opened end (closed_batch es) d) a b
-      → IfTold (λ t. LogOf fs end t.now) a → IfTold (λ t. LogOf gs (end + length (closed_batch es)) t.now) b
-  append_logged gs a b fits adds run log = opened_after fs gs es (closed_batch es) (batch_of gs fits adds) end a b run log
+  pub append_logged : (gs : List NamedFile) (a b : Option Told) → AllSpelled es → all_added version fs es ≡ Some gs → Run (IsStage end (closed_batch es)) (λ d x. x ≡ opened end (closed_batch es) d) a b
+      → IfTold (λ t. LogOf version fs end t.now) a → IfTold (λ t. LogOf version gs (end + length (closed_batch es)) t.now) b
+  append_logged gs a b fits adds run log = opened_after version fs gs es (closed_batch es) (batch_of gs fits adds) end a b run log
 
-  pub append_same : (a b : Option Told) → IsSome (all_added written_version fs es) → AllSpelled es ⊎ (b ≡ a) → Run (IsStage end (closed_batch es)) (λ d x. (x ≡ d) ⊎ (x ≡ staged end (closed_batch es) d)) a b
-      → IfTold (λ t. LogOf fs end t.now) a → IfTold (λ t. LogOf fs end t.now) b
-  append_same a b some (inl fits) run log = let adds = some_is (all_added written_version fs es) some in same_after fs adds.0 es (closed_batch es) (batch_of adds.0 fits adds.1) end a b run log
-  append_same a b some (inr same) run log = subst (λ (x : Option Told). IfTold (λ t. LogOf fs end t.now) x) (sym same) log
+  pub append_same : (a b : Option Told) → IsSome (all_added version fs es) → AllSpelled es ⊎ (b ≡ a) → Run (IsStage end (closed_batch es)) (λ d x. (x ≡ d) ⊎ (x ≡ staged end (closed_batch es) d)) a b
+      → IfTold (λ t. LogOf version fs end t.now) a → IfTold (λ t. LogOf version fs end t.now) b
+  append_same a b some (inl fits) run log = let adds = some_is (all_added version fs es) some in same_after version fs adds.0 es (closed_batch es) (batch_of adds.0 fits adds.1) end a b run log
+  append_same a b some (inr same) run log = subst (λ (x : Option Told). IfTold (λ t. LogOf version fs end t.now) x) (sym same) log
 
 pub told_same : {A : Type 0} (s t : State) → A ⊎ (t ≡ s) → A ⊎ (t.told ≡ s.told)
 told_same s t (inl a) = inl a

@@ -1,21 +1,21 @@
 -- The calls of an append, one after another.
-use Rattle.std.proofs.Common.{◌≡◌, ◌⊎◌, inl, inr, ℕ, ◌+◌, ◌≤◌, Bool, true, false, List, [], ◌∷◌, Option, Some, None, Result, Ok, Err, refl, sym, ap, ◌∙◌, subst, arith}
+use Rattle.std.proofs.Common.{◌≡◌, ◌⊎◌, inl, inr, ℕ, ◌+◌, ◌≤◌, Bool, true, false, List, [], ◌∷◌, Option, Some, None, Result, Ok, Err, refl, sym, ap, ◌∙◌, subst}
 use Rattle.std.specs.Prelude.{IsErrOf, is_ok}
 use Rattle.std.specs.Result.{IsErrAnd}
 use Rattle.wdt_units.specs.declared.failures.Failed.{Failed}
 use Rattle.wdt_depot.specs.Disk.{Disk, synced_at, wrote}
 use Rattle.wdt_depot.specs.Moments.{IfTold, MayDo, OneStep, Run, Told}
 use Rattle.wdt_depot.specs.Programs.{Calls, IsQuiet, Ran, drive_of, looking, run_sync, run_write}
-use Rattle.wdt_depot.specs.State.{State, at_spot, path_of, path_or}
+use Rattle.wdt_depot.specs.State.{State}
 use Rattle.wdt_depot.specs.declared.failure.DepotFail.{DepotFail}
 use Rattle.wdt_depot.specs.declared.failure.DepotFail.TheVariants as depot
-use Rattle.wdt_depot.proofs.Moments.{run_as, run_join, run_more, run_same, run_start}
-use Rattle.wdt_depot.proofs.Programs.{calls_both, calls_first, quiet_parts}
+use Rattle.wdt_depot.proofs.ForCallers.{calls_both, calls_first, quiet_parts, run_as, run_join, run_more, run_same, run_start}
+use Rattle.wdt_good.specs.Calls.{run_append, run_four, run_put}
 use Rattle.wdt_good.specs.Good.{log_path}
 use Rattle.wdt_log.specs.declared.fail.LogFail.{LogFail}
 use Rattle.wdt_log.specs.declared.fail.LogFail.TheVariants.{Disk as DiskFail, BadLog, Shut, NoMemory}
 use Rattle.wdt_log.specs.Answers.{RanLog, of_depot}
-use Rattle.wdt_log.specs.Stages.{IsPut, IsStage, Leaves, Puts, run_append, run_four, run_put, stable, staged}
+use Rattle.wdt_log.specs.Stages.{IsPut, IsStage, Leaves, Puts, stable, staged}
 
 -- ---- runs
 
@@ -45,9 +45,6 @@ err_not_ok (Ok x) P h = absurd h
 err_not_ok (Err y) P h = refl
 
 -- ---- bytes that are written and synced
-
-pub spot_stays : (spot : ℕ) (s t : State) → t.spots ≡ s.spots → at_spot spot t ≡ at_spot spot s
-spot_stays spot s t same = ap (λ (es : List (ℕ × List ℕ)). path_or (path_of spot es)) same
 
 module _ (path : List ℕ) (offset : ℕ) (bytes : List ℕ) where
   abbrev Put : Disk → Disk → Type 0

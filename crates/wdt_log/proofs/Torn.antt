@@ -3,7 +3,7 @@ use Rattle.std.proofs.Common.{◌≡◌, ◌⊎◌, inl, inr, ℕ, suc, ◌+◌,
 use Rattle.std.proofs.lemmas.List.{get_or-append-add, take_at, drop_at, drop-drop}
 use Rattle.std.proofs.lemmas.Grind.{same_number_lists}
 use Rattle.wdt_depot.specs.Disk.{IsFileImage, clean, spliced, write_file}
-use Rattle.wdt_depot.proofs.Images.{settled_after_write}
+use Rattle.wdt_depot.proofs.ForCallers.{settled_after_write}
 
 -- bytes written behind a front
 pub over : (f tail bytes : List ℕ) (at : ℕ) → length f ≡ at → spliced (f ++ tail) at bytes ≡ f ++ (bytes ++ drop (length bytes) tail)

@@ -1,8 +1,9 @@
 -- Worked batches, for tests.
 use Rattle.std.proofs.Common.{◌≡◌, ℕ, ◌<◌, ◌^◌, true, List, [], ◌∷◌, length, Option, Some, arith, refl, sym, ap, ◌∙◌, subst, lit<}
 use Rattle.std.specs.Prelude.{Err, IsSome, Ok, OnOk, Result}
+use Rattle.std.proofs.lemmas.Option.{same_Some}
 use Rattle.wdt_units.specs.Path.{is_lawful}
-use Rattle.wdt_units.proofs.Lawful.{lawful-is}
+use Rattle.wdt_units.proofs.Shared.{lawful-is}
 use Rattle.wdt_logfmt.specs.declared.entry.LogEntry.{LogEntry}
 use Rattle.wdt_logfmt.specs.declared.entry.LogEntry.TheVariants.{File, Covered}
 use Rattle.wdt_logfmt.specs.Adding.{all_added, can_cover, can_name}
@@ -61,15 +62,12 @@ b_leads_from path fs is one = ap (λ (p : List ℕ). all_added written_version f
 some_has : {A : Type 0} (o : Option A) (x : A) → o ≡ Some x → IsSome o
 some_has {A} o x is = subst (λ (w : Option A). IsSome w) (sym is) refl
 
-pub a_continues : (path : List ℕ) (fs : List NamedFile) → path ≡ 97 ∷ [] → fs ≡ [] → Continues fs (a_batch path)
+pub a_continues : (path : List ℕ) (fs : List NamedFile) → path ≡ 97 ∷ [] → fs ≡ [] → Continues written_version fs (a_batch path)
 a_continues path fs is none = some_has (all_added written_version fs (a_batch path)) (a_file ∷ []) (a_leads_from path fs is none)
 
-pub b_continues : (path : List ℕ) (fs : List NamedFile) → path ≡ 98 ∷ [] → fs ≡ a_file ∷ [] → Continues fs (b_batch path)
+pub b_continues : (path : List ℕ) (fs : List NamedFile) → path ≡ 98 ∷ [] → fs ≡ a_file ∷ [] → Continues written_version fs (b_batch path)
 b_continues path fs is one = some_has (all_added written_version fs (b_batch path)) (a_file ∷ b_file ∷ []) (b_leads_from path fs is one)
 
-some_alike : (fs gs : List NamedFile) → Some fs ≡ Some gs → fs ≡ gs
-some_alike fs gs e = cc
-
 pub a_left : (r : Result (Unit {0}) LogFail) (path : List ℕ) (fs gs : List NamedFile) → path ≡ 97 ∷ [] → fs ≡ [] → OnOk r (all_added written_version fs (a_batch path) ≡ Some gs) → OnOk r (gs ≡ a_file ∷ [])
-a_left (Ok done) path fs gs is none added = some_alike gs (a_file ∷ []) (sym added ∙ a_leads_from path fs is none)
+a_left (Ok done) path fs gs is none added = same_Some gs (a_file ∷ []) (sym added ∙ a_leads_from path fs is none)
 a_left (Err fail) path fs gs is none added = tt

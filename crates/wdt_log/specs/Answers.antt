@@ -1,15 +1,15 @@
 -- What the log's calls answer.
-use Rattle.std.specs.Prelude.{◌≡◌, Bool, true, false, Option, Result, Ok, Err, IsErrOf, is_ok}
+use Rattle.std.specs.Prelude.{◌≡◌, Bool, true, false, Option, None, Result, Ok, Err, IfErr, IsErrOf, OnOk, is_ok}
 use Rattle.wdt_depot.specs.Disk.{seen_of}
 use Rattle.wdt_depot.specs.Moments.{IfTold, Told}
 use Rattle.wdt_depot.specs.Programs.{Calls, Drive, IsQuiet, drive_of}
-use Rattle.wdt_depot.specs.State.{State}
+use Rattle.wdt_depot.specs.State.{Counts, State}
 use Rattle.wdt_depot.specs.declared.failure.DepotFail.{DepotFail}
 use Rattle.wdt_depot.specs.declared.failure.DepotFail.TheVariants as depot
 use Rattle.wdt_logfmt.specs.declared.fails.ReadLogFail.{ReadLogFail}
 use Rattle.wdt_logfmt.specs.declared.fails.ReadLogFail.TheVariants as reading
+use Rattle.wdt_good.specs.Calls.{run_open}
 use Rattle.wdt_good.specs.Good.{log_of}
-use Rattle.wdt_log.specs.Opening.{run_open}
 use Rattle.wdt_log.specs.declared.fail.LogFail.{LogFail}
 use Rattle.wdt_log.specs.declared.fail.LogFail.TheVariants.{Disk as DiskFail, BadLog, Shut, NoMemory}
 
@@ -28,6 +28,14 @@ abbrev pub IsOfDepot : LogFail → Type 0
 IsOfDepot DiskFail = Unit {0}
 IsOfDepot NoMemory = Unit {0}
 IsOfDepot fail = ⊥
+
+-- What a call of the log that makes calls of its depot leaves there: a failure is one of the depot's, of which
+-- the counts tell, no stop has struck where the call was done, and the same spots are entered.
+pub record UsesDepot {T : Type 0} (result : Result T LogFail) (old new : State) : Type 0 where
+  pub never : IfErr result (λ fail. IsOfDepot fail)
+  pub counts : Counts (IsErrOf result DiskFail) old new
+  pub up : OnOk result (new.stop.struck ≡ None)
+  pub spots : new.spots ≡ old.spots
 
 -- the answer isn't that the log has no meaning
 abbrev pub IsNotBad : LogFail → Type 0

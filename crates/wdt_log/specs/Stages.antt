@@ -1,17 +1,17 @@
--- The disks of an append, one behind the other, and the programs of its calls.
-use Rattle.std.specs.Prelude.{◌≡◌, ◌⊎◌, ℕ, ◌+◌, Bool, List, [], ◌∷◌, Result, Ok, Err}
+-- The disks of an append, one behind the other.
+use Rattle.std.specs.Prelude.{◌≡◌, ◌⊎◌, ℕ, ◌+◌, List, [], ◌∷◌, Result, Ok, Err}
 use Rattle.wdt_depot.specs.Disk.{Disk, synced_at, wrote}
-use Rattle.wdt_depot.specs.Programs.{Drive, both, looking, run_sync, run_write}
 use Rattle.wdt_good.specs.Good.{log_path}
 use Rattle.wdt_log.specs.declared.fail.LogFail.{LogFail}
 use Rattle.wdt_log.specs.declared.fail.LogFail.TheVariants.{Disk as DiskFail, BadLog, Shut, NoMemory}
 
--- ---- bytes that are written to a file, and synced
+-- ---- bytes that are put to a file
 
+-- the bytes are written there, and the file is synced
 abbrev pub stable : List ℕ → ℕ → List ℕ → Disk → Disk
 stable path offset bytes d = synced_at path (wrote path offset bytes d)
 
--- one of the disks
+-- one of the disks on the way to that
 abbrev pub IsPut : List ℕ → ℕ → List ℕ → Disk → Disk → Type 0
 IsPut path offset bytes d x = (x ≡ d) ⊎ ((x ≡ wrote path offset bytes d) ⊎ (x ≡ stable path offset bytes d))
 
@@ -22,9 +22,6 @@ Puts (Err NoMemory) path offset bytes d x = x ≡ d
 Puts (Err DiskFail) path offset bytes d x = IsPut path offset bytes d x
 Puts (Err Shut) path offset bytes d x = ⊥
 Puts (Err (BadLog at)) path offset bytes d x = ⊥
-
-abbrev pub run_put : List ℕ → ℕ → List ℕ → Drive → Bool × Drive
-run_put path offset bytes = both (run_write path offset bytes) (run_sync path)
 
 -- ---- an append
 
@@ -55,11 +52,3 @@ Leaves (Err NoMemory) end batch d x = (x ≡ d) ⊎ (x ≡ staged end batch d)
 Leaves (Err DiskFail) end batch d x = IsStage end batch d x
 Leaves (Err Shut) end batch d x = ⊥
 Leaves (Err (BadLog at)) end batch d x = ⊥
-
--- the four calls
-abbrev pub run_four : ℕ → List ℕ → Drive → Bool × Drive
-run_four end batch = both (run_put log_path (end + 1) batch) (run_put log_path end (1 ∷ []))
-
--- an append looks for the log, and makes them
-abbrev pub run_append : ℕ → List ℕ → Drive → Bool × Drive
-run_append end batch = both looking (run_four end batch)

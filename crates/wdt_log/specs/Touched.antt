@@ -4,7 +4,6 @@ use Rattle.wdt_units.specs.Have.{HaveFile}
 use Rattle.wdt_logfmt.specs.declared.entry.LogEntry.{LogEntry}
 use Rattle.wdt_logfmt.specs.declared.entry.LogEntry.TheVariants.{File, Covered}
 use Rattle.wdt_logfmt.specs.Adding.{added, all_added, have_with, just_named, span_at}
-use Rattle.wdt_logfmt.specs.Spelling.{written_version}
 use Rattle.wdt_logfmt.specs.View.{NamedFile, is_view}
 
 -- the file of this number
@@ -12,6 +11,7 @@ abbrev pub numbered : ℕ → List NamedFile → Option HaveFile
 numbered n [] = None
 numbered n (f ∷ fs) = if f.number == n then Some f.have else numbered n fs
 
+-- the first, and where it is none the other
 abbrev pub or_else : Option HaveFile → Option HaveFile → Option HaveFile
 or_else None other = other
 or_else (Some f) other = Some f
@@ -29,10 +29,10 @@ entered (Covered number offset count) before n = if number == n then option_map 
 abbrev pub SameFiles : (ℕ → Option HaveFile) → (ℕ → Option HaveFile) → Type 0
 SameFiles f g = (n : ℕ) → g n ≡ f n
 
--- the files that a batch leads to, by their numbers
-abbrev pub AreAdded : List NamedFile → List LogEntry → (ℕ → Option HaveFile) → Type 0
-AreAdded fs es look = (gs : List NamedFile) → all_added written_version fs es ≡ Some gs → SameFiles look (λ n. numbered n gs)
+-- the files that a batch of a log of this version leads to, by their numbers
+abbrev pub AreAdded : ℕ → List NamedFile → List LogEntry → (ℕ → Option HaveFile) → Type 0
+AreAdded version fs es look = (gs : List NamedFile) → all_added version fs es ≡ Some gs → SameFiles look (λ n. numbered n gs)
 
 -- an entry continues the files that are seen so lawfully
-abbrev pub CanEnter : (ℕ → Option HaveFile) → LogEntry → Type 0
-CanEnter look e = (gs : List NamedFile) × IsTrue (is_view gs) × SameFiles look (λ n. numbered n gs) × IsSome (added written_version gs e)
+abbrev pub CanEnter : ℕ → (ℕ → Option HaveFile) → LogEntry → Type 0
+CanEnter version look e = (gs : List NamedFile) × IsTrue (is_view gs) × SameFiles look (λ n. numbered n gs) × IsSome (added version gs e)

@@ -8,6 +8,7 @@ ghost use Rattle.wdt_units.specs.Have.{HaveFile};
 ghost use Rattle.wdt_ranges.specs.Files.{have_file};
 ghost use Rattle.wdt_ranges.specs.Spans.{are_apart, is_span, plain_span};
 ghost use Rattle.wdt_logfmt.specs.Adding.{have_with, put_by_number};
+ghost use Rattle.wdt_logfmt.specs.Spelling.{written_version};
 ghost use Rattle.wdt_logfmt.specs.View.{is_numbered, is_rising, is_view, named_file, named_files};
 ghost use Rattle.wdt_log.specs.OpenLog.{Continues};
 ghost use Rattle.wdt_log.specs.Places.{IsPlace, is_at};
@@ -25,10 +26,10 @@ pub fn touched(
     batch: &[LogEntry],
 ) -> Result<Vec<LogFile>, LogFail>
     requires view { IsTrue (is_view (named_files files.now)) }
-    requires continues { Continues (named_files files.now) batch.now }
+    requires continues { Continues written_version (named_files files.now) batch.now }
     ensures memory { IfErr result (λ fail. fail ≡ LogFail.NoMemory) }
     ensures rising { IfOk result (λ touched. IsTrue (is_rising (named_files touched.items))) }
-    ensures files { IfOk result (λ touched. AreAdded (named_files files.now) batch.now (laid (named_files touched.items) (named_files files.now))) }
+    ensures files { IfOk result (λ touched. AreAdded written_version (named_files files.now) batch.now (laid (named_files touched.items) (named_files files.now))) }
 {
     let mut touched = Vec::new(alloc);
     for entry in batch {
@@ -46,7 +47,7 @@ fn touch(
 ) -> Result<(), LogFail>
     requires view { IsTrue (is_view (named_files files.now)) }
     requires rising { IsTrue (is_rising (named_files touched.old.items)) }
-    requires continues { CanEnter (laid (named_files touched.old.items) (named_files files.now)) entry.now }
+    requires continues { CanEnter written_version (laid (named_files touched.old.items) (named_files files.now)) entry.now }
     ensures memory { IfErr result (λ fail. fail ≡ LogFail.NoMemory) }
     ensures rising { OnOk result (IsTrue (is_rising (named_files touched.new.items))) }
     ensures files { OnOk result (SameFiles (entered entry.now (laid (named_files touched.old.items) (named_files files.now))) (laid (named_files touched.new.items) (named_files files.now))) }
@@ -170,7 +171,7 @@ fn cover_file(file: &mut LogFile, span: Span) -> Result<(), LogFail>
 fn know_apart(spans: &Ranges)
     ensures { IsTrue (are_apart spans.now) }
 {
-    let _spans = spans.spans();
+    let _ = spans.count();
 }
 
 /// Lays touched files over all others: each in the place of the file of its number, if there is one.

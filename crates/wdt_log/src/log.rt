@@ -5,20 +5,19 @@ ghost use Rattle.wdt_depot.specs.Disk.{seen_of};
 ghost use Rattle.wdt_depot.specs.Moments.{IfTold};
 ghost use Rattle.wdt_depot.specs.State.{Counts};
 ghost use Rattle.wdt_logfmt.specs.Adding.{all_added};
-ghost use Rattle.wdt_logfmt.specs.Spelling.{closed_batch, spell_all, written_version};
+ghost use Rattle.wdt_logfmt.specs.Spelling.{closed_batch, spell_all};
 ghost use Rattle.wdt_logfmt.specs.View.{NamedFile, is_view, meaning_of, named_files};
-ghost use Rattle.wdt_good.specs.Good.{log_path, new_log_path};
-ghost use Rattle.wdt_good.specs.LogState.{IsReady, LogOf};
+ghost use Rattle.wdt_good.specs.Batch.{forgotten_of};
+ghost use Rattle.wdt_good.specs.Calls.{run_append};
+ghost use Rattle.wdt_good.specs.LogState.{IsReady, SaysAs};
 ghost use Rattle.wdt_good.specs.Logged.{AllFit, GoodSince};
 ghost use Rattle.wdt_log.specs.Answers.{IsNotBad, IsOpeningFail, RanLog, RanOpening};
-ghost use Rattle.wdt_log.specs.OpenLog.{Continues};
-ghost use Rattle.wdt_log.specs.Opening.{OpensAs};
+ghost use Rattle.wdt_log.specs.OpenLog.{Continues, RestsIn};
 ghost use Rattle.wdt_log.specs.Others.{OthersStand, SlipsStand};
-ghost use Rattle.wdt_log.specs.Stages.{run_append};
 
 use crate::fail::LogFail;
 use crate::opening::find;
-use crate::writing::append_to;
+use crate::writing::append_to_view;
 use std::alloc::Global;
 use std::marker::Model;
 use wdt_depot::Depot;
@@ -45,13 +44,14 @@ pub struct Log {
 
 impl Model for Log {
     ghost use Rattle.std.specs.Prelude.{◌≡◌, ◌<◌, ◌^◌, IsTrue};
+    ghost use Rattle.wdt_logfmt.specs.Spelling.{written_version};
     ghost use Rattle.wdt_logfmt.specs.View.{is_view, meaning_of, named_files};
     ghost use Rattle.wdt_good.specs.Good.{log_path, new_log_path};
     ghost use Rattle.wdt_log.specs.OpenLog.{OpenLog};
 
     ghost Value = { OpenLog };
 
-    ghost view = { λ l. record { meaning = meaning_of l.view; shut = l.shut } };
+    ghost view = { λ l. record { version = written_version; meaning = meaning_of l.view; shut = l.shut } };
 
     ghost invariant = { λ l. IsTrue (is_view (named_files l.view.files.items)) × (l.view.end < 2 ^ 63) × (l.path ≡ log_path) × (l.new_path ≡ new_log_path) };
 }
@@ -70,8 +70,8 @@ impl Log {
         // logged before; also where a call fails.
         ensures images { (T : List File) → IfTold (λ t. AllFit T t.now) (D.state depot.old).told → GoodSince T [] (D.state depot.old).told (D.state depot.new).told }
 
-        ensures logged { IfOk result (λ log. IfTold (λ t. LogOf log.meaning.files log.meaning.end t.now) (D.state depot.new).told) }
-        ensures means { IfOk result (λ log. IfTold (λ t. OpensAs (seen_of t.now log_path) log.meaning) (D.state depot.old).told) }
+        ensures logged { IfOk result (λ log. RestsIn log (D.state depot.new)) }
+        ensures says { IfOk result (λ log. IfTold (λ t. SaysAs (seen_of t.now) log.meaning.files) (D.state depot.old).told) }
         ensures open { IfOk result (λ log. log.shut ≡ false) }
         ensures refused { IfErr result (λ fail. IsOpeningFail (D.state depot.old).told fail) }
         ensures others { OthersStand (D.state depot.old).told (D.state depot.new).told }
@@ -115,19 +115,20 @@ impl Log {
         batch: &[LogEntry],
     ) -> Result<(), LogFail>
         requires small { length (spell_all batch.now) < 2 ^ 32 }
-        requires continues { Continues (self.old).meaning.files batch.now }
+        requires continues { Continues (self.old).version (self.old).meaning.files batch.now }
         requires spots { (D.state depot.old).spots ≡ [] }
 
         // At each moment, inside each write too, each image is good for the tree and for what was
         // logged before; also where a call fails.
-        ensures images { (T : List File) (gs : List NamedFile) → IfTold (λ t. LogOf (self.old).meaning.files (self.old).meaning.end t.now) (D.state depot.old).told → IfTold (λ t. IsReady T (self.old).meaning.files gs batch.now t.now) (D.state depot.old).told → GoodSince T [] (D.state depot.old).told (D.state depot.new).told }
+        ensures images { (T : List File) (gs : List NamedFile) → RestsIn self.old (D.state depot.old) → IfTold (λ t. IsReady (self.old).version T (self.old).meaning.files gs batch.now t.now) (D.state depot.old).told → GoodSince T (forgotten_of batch.now) (D.state depot.old).told (D.state depot.new).told }
 
-        ensures logged { OnOk result (IfTold (λ t. LogOf (self.old).meaning.files (self.old).meaning.end t.now) (D.state depot.old).told → IfTold (λ t. LogOf (self.new).meaning.files (self.new).meaning.end t.now) (D.state depot.new).told) }
-        ensures files { OnOk result (all_added written_version (self.old).meaning.files batch.now ≡ Some (self.new).meaning.files) }
+        ensures logged { OnOk result (RestsIn self.old (D.state depot.old) → RestsIn self.new (D.state depot.new)) }
+        ensures files { OnOk result (all_added (self.old).version (self.old).meaning.files batch.now ≡ Some (self.new).meaning.files) }
         ensures end { OnOk result ((self.new).meaning.end ≡ (self.old).meaning.end + length (closed_batch batch.now)) }
 
+        ensures version { (self.new).version ≡ (self.old).version }
         ensures unchanged { OnErr result ((self.new).meaning ≡ (self.old).meaning) }
-        ensures memory { IsErrOf result LogFail.NoMemory → IfTold (λ t. LogOf (self.old).meaning.files (self.old).meaning.end t.now) (D.state depot.old).told → IfTold (λ t. LogOf (self.old).meaning.files (self.old).meaning.end t.now) (D.state depot.new).told }
+        ensures memory { IsErrOf result LogFail.NoMemory → RestsIn self.old (D.state depot.old) → RestsIn self.old (D.state depot.new) }
 
         ensures shut { IsErrOf result LogFail.Shut ↔ IsTrue (self.old).shut }
         ensures shuts { IsTrue (self.new).shut ↔ (IsTrue (self.old).shut ⊎ IsErrOf result LogFail.Disk) }
@@ -139,12 +140,12 @@ impl Log {
         ensures up { OnOk result ((D.state depot.new).stop.struck ≡ None) }
         ensures spots { (D.state depot.new).spots ≡ [] }
         ensures counts { Counts (IsErrOf result LogFail.Disk) (D.state depot.old) (D.state depot.new) }
-        ensures slips { IfTold (λ t. LogOf (self.old).meaning.files (self.old).meaning.end t.now) (D.state depot.old).told → SlipsStand (D.state depot.old) (D.state depot.new) }
+        ensures slips { RestsIn self.old (D.state depot.old) → SlipsStand (D.state depot.old) (D.state depot.new) }
     {
         if self.shut {
             return Err(LogFail::Shut);
         }
-        match append_to(alloc, depot, &self.path, &mut self.view, batch) {
+        match append_to_view(alloc, depot, &self.path, &mut self.view, batch) {
             Ok(()) => Ok(()),
             Err(fail) => {
                 self.shut = fail == LogFail::Disk;

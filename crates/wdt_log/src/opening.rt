@@ -5,17 +5,18 @@ ghost use Rattle.wdt_units.specs.Tree.{File};
 ghost use Rattle.wdt_depot.specs.Disk.{seen_of, synced_at};
 ghost use Rattle.wdt_depot.specs.Moments.{IfTold, Run};
 ghost use Rattle.wdt_depot.specs.State.{Counts, IfFileAt, IsEntered, at_spot};
-ghost use Rattle.wdt_logfmt.specs.Meaning.{log_meaning};
+ghost use Rattle.wdt_logfmt.specs.Spelling.{written_version};
 ghost use Rattle.wdt_logfmt.specs.View.{is_view, meaning_of, named_files};
+ghost use Rattle.wdt_good.specs.Calls.{run_look, run_making, run_reading};
 ghost use Rattle.wdt_good.specs.Good.{log_path, new_log_path};
-ghost use Rattle.wdt_good.specs.LogState.{LogOf};
+ghost use Rattle.wdt_good.specs.LogState.{LogOf, SaysAs};
 ghost use Rattle.wdt_good.specs.Logged.{AllFit, GoodSince};
-ghost use Rattle.wdt_log.specs.Answers.{IsOfDepot, IsOpeningFail, RanLog, RanOpening};
-ghost use Rattle.wdt_log.specs.Opening.{IsMaking, IsSyncing, Makes, OpensAs, Syncs, run_look, run_making, run_reading};
+ghost use Rattle.wdt_log.specs.Answers.{IsOpeningFail, RanLog, RanOpening, UsesDepot};
+ghost use Rattle.wdt_log.specs.Opening.{IsMaking, IsSyncing, Makes, Syncs};
 ghost use Rattle.wdt_log.specs.Others.{OthersStand, SlipsStand};
 
 use crate::fail::LogFail;
-use crate::writing::put;
+use crate::writing::put_synced;
 use std::alloc::Global;
 use wdt_depot::{Depot, read_whole};
 use wdt_logfmt::{LogView, read_log};
@@ -36,8 +37,8 @@ pub fn find<D: Depot>(
     requires new_path { new.now ≡ new_log_path }
     requires spots { (D.state depot.old).spots ≡ [] }
     ensures images { (T : List File) → IfTold (λ t. AllFit T t.now) (D.state depot.old).told → GoodSince T [] (D.state depot.old).told (D.state depot.new).told }
-    ensures logged { IfOk result (λ view. IfTold (λ t. LogOf (meaning_of view).files (meaning_of view).end t.now) (D.state depot.new).told) }
-    ensures means { IfOk result (λ view. IfTold (λ t. OpensAs (seen_of t.now log_path) (meaning_of view)) (D.state depot.old).told) }
+    ensures logged { IfOk result (λ view. IfTold (λ t. LogOf written_version (meaning_of view).files (meaning_of view).end t.now) (D.state depot.new).told) }
+    ensures says { IfOk result (λ view. IfTold (λ t. SaysAs (seen_of t.now) (meaning_of view).files) (D.state depot.old).told) }
     ensures view { IfOk result (λ view. IsTrue (is_view (named_files view.files.items))) }
     ensures room { IfOk result (λ view. view.end < 2 ^ 63) }
     ensures refused { IfErr result (λ fail. IsOpeningFail (D.state depot.old).told fail) }
@@ -66,10 +67,7 @@ fn read<D: Depot>(alloc: Global, depot: &mut D, log: &Name) -> Result<Option<Vec
     ensures none { IfOk result (λ found. MatchOption found ((D.state depot.new).told ≡ (D.state depot.old).told) (λ _. Run IsSyncing (λ d x. x ≡ synced_at log_path d) (D.state depot.old).told (D.state depot.new).told)) }
     ensures moments { Run IsSyncing IsSyncing (D.state depot.old).told (D.state depot.new).told }
     ensures exact { RanLog run_look result (D.state depot.old) (D.state depot.new) }
-    ensures up { OnOk result ((D.state depot.new).stop.struck ≡ None) }
-    ensures spots { (D.state depot.new).spots ≡ [] }
-    ensures never { IfErr result (λ fail. IsOfDepot fail) }
-    ensures counts { Counts (IsErrOf result LogFail.Disk) (D.state depot.old) (D.state depot.new) }
+    ensures depot { UsesDepot result (D.state depot.old) (D.state depot.new) }
     ensures slips { (D.state depot.new).slips ≡ (D.state depot.old).slips }
 {
     let Some(spot) = depot.enter(log)? else {
@@ -86,10 +84,7 @@ fn read_synced<D: Depot>(alloc: Global, depot: &mut D, spot: Spot) -> Result<Vec
     ensures bytes { IfOk result (λ bytes. IfFileAt (λ f. f.seen ≡ bytes.items) log_path (D.state depot.old)) }
     ensures moments { Run IsSyncing (Syncs result) (D.state depot.old).told (D.state depot.new).told }
     ensures exact { RanLog run_reading result (D.state depot.old) (D.state depot.new) }
-    ensures up { OnOk result ((D.state depot.new).stop.struck ≡ None) }
-    ensures spots { (D.state depot.new).spots ≡ (D.state depot.old).spots }
-    ensures never { IfErr result (λ fail. IsOfDepot fail) }
-    ensures counts { Counts (IsErrOf result LogFail.Disk) (D.state depot.old) (D.state depot.new) }
+    ensures depot { UsesDepot result (D.state depot.old) (D.state depot.new) }
     ensures slips { (D.state depot.new).slips ≡ (D.state depot.old).slips }
 {
     depot.sync(spot)?;
@@ -105,15 +100,12 @@ fn make<D: Depot>(alloc: Global, depot: &mut D, log: &Name, new: &Name) -> Resul
     ensures moments { Run IsMaking (Makes result) (D.state depot.old).told (D.state depot.new).told }
     ensures view { IfOk result (λ view. meaning_of view ≡ record { files = []; end = 6 }) }
     ensures exact { RanLog run_making result (D.state depot.old) (D.state depot.new) }
-    ensures up { OnOk result ((D.state depot.new).stop.struck ≡ None) }
-    ensures spots { (D.state depot.new).spots ≡ [] }
-    ensures never { IfErr result (λ fail. IsOfDepot fail) }
-    ensures counts { Counts (IsErrOf result LogFail.Disk) (D.state depot.old) (D.state depot.new) }
+    ensures depot { UsesDepot result (D.state depot.old) (D.state depot.new) }
     ensures slips { SlipsStand (D.state depot.old) (D.state depot.new) }
 {
     depot.make(new)?;
     let spot = depot.need(new)?;
-    let result = put(depot, spot, 0, &EMPTY);
+    let result = put_synced(depot, spot, 0, &EMPTY);
     depot.leave(spot);
     result?;
     depot.put_in_place(new, log)?;

@@ -139,14 +139,12 @@ fn assert_names_both(rt: &impl Abort, view: &LogView) {
     let a = &view.files[0];
     assert_eq!(rt; (a.number, a.have.size, a.have.stamp), (0, 2, 0));
     assert_eq!(rt; a.have.path.bytes(), b"a".as_slice());
-    assert_eq!(rt;
-        a.have.spans.spans(),
-        [Span {
-            offset: 0,
-            length: 2
-        }]
-        .as_slice()
-    );
+    let first = Span {
+        offset: 0,
+        length: 2,
+    };
+    assert_eq!(rt; a.have.spans.count(), 1);
+    assert_eq!(rt; a.have.spans.spans().next(), Some(first));
     let b = &view.files[1];
     assert_eq!(rt; (b.number, b.have.size, b.have.stamp), (1, 0, 7));
     assert_eq!(rt; b.have.path.bytes(), b"b".as_slice());

@@ -4,7 +4,7 @@ use Rattle.std.proofs.lemmas.List.{take_at, take-take, take_more, length-append,
 use Rattle.std.proofs.lemmas.List.Folds.{length-flat_map-take}
 use Rattle.byteorder.specs.Endian.{big_bytes}
 use Rattle.wdt_units.specs.Path.{is_lawful}
-use Rattle.wdt_units.proofs.Lawful.{lawful}
+use Rattle.wdt_units.proofs.Shared.{lawful}
 use Rattle.wdt_logfmt.specs.declared.entry.LogEntry.{LogEntry}
 use Rattle.wdt_logfmt.specs.declared.entry.LogEntry.TheVariants.{File}
 use Rattle.wdt_logfmt.specs.Spelling.{spell, spell_all, Fits, AllFit}

@@ -1,9 +1,11 @@
 pub mod Appending
 mod Covering
 mod EntryReading
+pub mod ForCallers
 mod Gates
 mod Having
 mod Keeping
+mod Landing
 pub mod Lawful
 pub mod Prefix
 pub mod Reach

@@ -121,9 +121,9 @@ reaches-next front g h reach at l gate rest =
     let again = subst (λ (p : ℕ). sized_batch g.version (p + 1) g.files (number 4 (l.batch ++ gate ∷ rest)) ≡ Ok (record { version = g.version; place = h.place; files = h.files; byte = gate; rest = rest })) at (l.again gate rest) in
     step_from g.version front l.batch g.files h.place h gate rest r.0 again (omega (arith, l.place, at, length-append front (1 ∷ l.batch))) r.1 r.2
 
-closed_ends : (front : List ℕ) (g : Gate) (m : Meaning) → Reaches g.version front g.files → g.place ≡ length front → (g.byte ≡ 1 → ⊥) → m ≡ record { files = g.files; end = g.place } → EndsAt (front ++ g.byte ∷ g.rest) m
+closed_ends : (front : List ℕ) (g : Gate) (m : Meaning) → Reaches g.version front g.files → g.place ≡ length front → (g.byte ≡ 1 → ⊥) → m ≡ record { files = g.files; end = g.place } → EndsAt g.version (front ++ g.byte ∷ g.rest) m
 closed_ends front g m reach at shut is =
-    subst (EndsAt (front ++ g.byte ∷ g.rest)) (sym is) (record { version = g.version; front = front; gate = g.byte; behind = g.rest; split = refl; place = sym at; closed = shut; reaches = reach })
+    subst (EndsAt g.version (front ++ g.byte ∷ g.rest)) (sym is) (record { front = front; gate = g.byte; behind = g.rest; split = refl; place = sym at; closed = shut; reaches = reach })
 
 split_ok : {A B : Type 0} (r : Result A ℕ) (f : A → Result B ℕ) (z : B) → ok_then r f ≡ Ok z → (y : A) × (r ≡ Ok y) × (f y ≡ Ok z)
 split_ok (Err e) f z is = absurd (cc)
@@ -132,7 +132,7 @@ split_ok (Ok y) f z is = (y, refl, is)
 ok_same : (m n : Meaning) (r : Result Meaning ℕ) → r ≡ Ok m → r ≡ Ok n → m ≡ n
 ok_same m n r a b = cc
 
-ends_from : (fuel : ℕ) (front : List ℕ) (g : Gate) (m : Meaning) → Reaches g.version front g.files → g.place ≡ length front → from_gate fuel g ≡ Ok m → EndsAt (front ++ g.byte ∷ g.rest) m
+ends_from : (fuel : ℕ) (front : List ℕ) (g : Gate) (m : Meaning) → Reaches g.version front g.files → g.place ≡ length front → from_gate fuel g ≡ Ok m → EndsAt g.version (front ++ g.byte ∷ g.rest) m
 unfolding from_gate
 ends_from zero front g m reach at is = elim (cases_eq g.byte 1) [
   | inl one ↦
@@ -152,7 +152,7 @@ ends_from (suc fuel) front g m reach at is = elim (cases_eq g.byte 1) [
       let ends = ends_from fuel (front ++ 1 ∷ l.batch) next.0 m leads there next.2 in
       let same : (front ++ 1 ∷ l.batch) ++ next.0.byte ∷ next.0.rest ≡ front ++ g.byte ∷ g.rest =
       append_assoc front (1 ∷ l.batch) (next.0.byte ∷ next.0.rest) ∙ (λ i. front ++ sym one i ∷ sym l.split i) in
-      subst (λ bytes. EndsAt bytes m) same ends
+      subst (λ (v : ℕ). EndsAt v (front ++ g.byte ∷ g.rest) m) l.version (subst (λ bytes. EndsAt next.0.version bytes m) same ends)
   | inr shut ↦ closed_ends front g m reach at shut (ok_same m _ (from_gate (suc fuel) g) is (from_gate-closed (suc fuel) g shut))
 ]
 
@@ -160,12 +160,12 @@ version-known : (b : Bool) (version : ℕ) → (if b then Some 1 else None) ≡ 
 version-known true version is = (refl, let same : 1 ≡ version = cc in sym same)
 version-known false version is = absurd (cc)
 
--- A log with a meaning ends at a closed gate, and its front leads to its files.
-pub ends : (bytes : List ℕ) (m : Meaning) → log_meaning bytes ≡ Ok m → EndsAt bytes m
+-- A log with a meaning is of version 1 and ends at a closed gate, and its front leads to its files.
+pub ends : (bytes : List ℕ) (m : Meaning) → log_meaning bytes ≡ Ok m → EndsAt 1 bytes m
 unfolding log_meaning
 ends bytes m is = go (version_of (take 6 bytes)) refl (drop 6 bytes) refl
   where
-    go : (told : Option ℕ) → version_of (take 6 bytes) ≡ told → (rest : List ℕ) → drop 6 bytes ≡ rest → EndsAt bytes m
+    go : (told : Option ℕ) → version_of (take 6 bytes) ≡ told → (rest : List ℕ) → drop 6 bytes ≡ rest → EndsAt 1 bytes m
     go None nay rest at = absurd (let none : Err 0 ≡ Ok m = (λ i. behind_header (sym nay i) (drop 6 bytes)) ∙ is in cc)
     go (Some version) aye [] at = absurd (let none : Err 0 ≡ Ok m = (λ i. behind_header (sym aye i) (sym at i)) ∙ is in cc)
     go (Some version) aye (gate ∷ rest) at =
@@ -174,4 +174,4 @@ ends bytes m is = go (version_of (take 6 bytes)) refl (drop 6 bytes) refl
         let whole : header 1 ++ gate ∷ rest ≡ bytes = (λ i. sym first i ++ sym at i) ∙ take-append-drop 6 bytes in
         let from : from_gate (length rest) (record { version = version; place = 6; files = []; byte = gate; rest = rest }) ≡ Ok m = (λ i. behind_header (sym aye i) (sym at i)) ∙ is in
         let leads : Reaches version (header 1) [] = subst (λ (v : ℕ). Reaches v (header 1) []) (sym known.1) reaches-header in
-        subst (λ l. EndsAt l m) whole (ends_from (length rest) (header 1) (record { version = version; place = 6; files = []; byte = gate; rest = rest }) m leads refl from)
+        subst (λ (v : ℕ). EndsAt v bytes m) known.1 (subst (λ l. EndsAt version l m) whole (ends_from (length rest) (header 1) (record { version = version; place = 6; files = []; byte = gate; rest = rest }) m leads refl from))

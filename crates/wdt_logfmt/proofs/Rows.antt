@@ -1,7 +1,7 @@
 -- Worked logs, by computation.
 use Rattle.std.proofs.Common.{◌≡◌, ℕ, true, List, [], ◌∷◌, ◌++◌, Ok, Err, refl, arith}
 use Rattle.wdt_units.specs.Path.{is_lawful}
-use Rattle.wdt_units.proofs.Lawful.{lawful-is}
+use Rattle.wdt_units.proofs.Shared.{lawful-is}
 use Rattle.wdt_logfmt.specs.declared.entry.LogEntry.TheVariants.{File, Covered}
 use Rattle.wdt_logfmt.specs.Spelling.{closed_batch, header, new_log}
 use Rattle.wdt_logfmt.specs.Adding.{can_name, can_cover}

@@ -189,7 +189,7 @@ once_kept n s [] = refl
 once_kept n s (f ∷ fs) = (ap (λ p. not (names (map (covering n s) fs) p) && are_paths_once (map (covering n s) fs)) (path_kept n s f)) ∙ (λ i. not (names_kept n s fs f.have.path i) && once_kept n s fs i)
 
 -- the file of a number among rising ones is one
-room_above : (n : ℕ) (s : PlainSpan) (f : NamedFile) (fs : List NamedFile) → list_all (is_numbered_above f) fs ≡ true → list_any (is_room_in n s) fs ≡ true → f.number < n
+pub room_above : (n : ℕ) (s : PlainSpan) (f : NamedFile) (fs : List NamedFile) → list_all (is_numbered_above f) fs ≡ true → list_any (is_room_in n s) fs ≡ true → f.number < n
 room_above n s f [] all any = absurd (cc)
 room_above n s f (g ∷ fs) all any =
     let a = and_parts (nat_lt f.number g.number) (list_all (is_numbered_above f) fs) all in
@@ -263,7 +263,7 @@ view_cover fs n s view can =
 
 -- ---- entries
 
-taken_true : {A : Type 0} (b : Bool) (x y : A) → (if b then Some x else None) ≡ Some y → (b ≡ true) × (x ≡ y)
+pub taken_true : {A : Type 0} (b : Bool) (x y : A) → (if b then Some x else None) ≡ Some y → (b ≡ true) × (x ≡ y)
 taken_true true x y is = (refl, (cc))
 taken_true false x y is = absurd (cc)
 

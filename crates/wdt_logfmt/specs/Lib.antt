@@ -1,8 +1,11 @@
-pub mod View
 pub mod Adding
-pub mod Spelling
+pub mod Landing
+pub mod Beginning
+pub mod Marks
 pub mod Meaning
 pub mod Parts
 pub mod Reaching
 pub mod Slots
 pub mod Sorting
+pub mod Spelling
+pub mod View

@@ -9,10 +9,9 @@ Reaches version front fs =
     (gate : ℕ) (rest : List ℕ) → (fuel : ℕ) × (length rest ≤ fuel)
     × (log_meaning (front ++ gate ∷ rest) ≡ from_gate fuel (record { version = version; place = length front; files = fs; byte = gate; rest = rest }))
 
--- The bytes are a log with this meaning: a gate other than 1 stands at the end, and what stands before it leads
+-- The bytes are a log of this version with this meaning: a gate other than 1 stands at the end, and what stands before it leads
 -- to the files.
-pub record EndsAt (bytes : List ℕ) (m : Meaning) : Type 0 where
-  pub version : ℕ
+pub record EndsAt (version : ℕ) (bytes : List ℕ) (m : Meaning) : Type 0 where
   pub front : List ℕ
   pub gate : ℕ
   pub behind : List ℕ

@@ -256,11 +256,11 @@ fn with_span(
     if span.offset > file.size || span.length > file.size - span.offset {
         return Ok(None);
     }
-    let others = spans - file.spans.spans().len();
+    let before = file.spans.count();
     match file.spans.add(span) {
         Ok(()) => {
-            let spans = others + file.spans.spans().len();
-            Ok(Some((file, spans)))
+            let now = file.spans.count();
+            Ok(Some((file, spans - before + now)))
         }
         Err(AddFail::Overlap { .. }) => Ok(None),
         Err(AddFail::NoMemory) => Err(NoMemory),

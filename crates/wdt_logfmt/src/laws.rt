@@ -1,19 +1,25 @@
 //! What the bytes of logs mean, whatever stands behind their end. The functions do nothing: their
 //! contracts are the laws.
-ghost use Rattle.std.specs.Prelude.{◌≡◌, ℕ, false, ◌<◌, ◌^◌, [], ◌∷◌, ◌++◌, List, length, Some, Ok, IsTrue};
+ghost use Rattle.std.specs.Prelude.{◌≡◌, ◌⊎◌, ℕ, false, ◌+◌, ◌<◌, ◌≤◌, ◌^◌, [], ◌∷◌, ◌++◌, List, length, map, sum_by, option_and_then, Some, Ok, IsTrue};
+ghost use Rattle.std.specs.List.{list_any};
+ghost use Rattle.wdt_units.specs.Have.{PlainSpan};
 ghost use Rattle.wdt_units.specs.Path.{is_lawful, is_reserved};
 ghost use Rattle.wdt_logfmt.specs.declared.entry.LogEntry.{LogEntry};
-ghost use Rattle.wdt_logfmt.specs.View.{is_view, names, Meaning, NamedFile};
-ghost use Rattle.wdt_logfmt.specs.Adding.{all_added};
-ghost use Rattle.wdt_logfmt.specs.Spelling.{batch_body, header, spell_all, AllFit};
+ghost use Rattle.wdt_logfmt.specs.View.{is_rising, is_view, names, Meaning, NamedFile};
+ghost use Rattle.wdt_ranges.specs.Spans.{are_apart, has, total_of};
+ghost use Rattle.wdt_logfmt.specs.Adding.{added, all_added, can_cover, covering, is_room_in, with_span};
+ghost use Rattle.wdt_logfmt.specs.Landing.{entry_number, HasRoomFor, IsAmong};
+ghost use Rattle.wdt_logfmt.specs.Spelling.{batch_body, header, spell_all, written_version, AllFit};
 ghost use Rattle.wdt_logfmt.specs.Meaning.{log_meaning};
 ghost use Rattle.wdt_logfmt.specs.Reaching.{EndsAt, Reaches};
 
-/// What stands behind a closed gate is never read, and each log that means something ends at such a
-/// gate. What it means is a view: lawful paths, each once, within the limits.
+use wdt_units::MAX_BLOCK;
+
+/// What stands behind a closed gate is never read, and each log that means something is of the version
+/// that is written, and ends at such a gate. What it means is a view: lawful paths, each once, within the limits.
 pub fn a_closed_gate_ends_a_log()
     ensures unread { (version : ℕ) (front : List ℕ) (files : List NamedFile) (gate : ℕ) (behind : List ℕ) → Reaches version front files → (gate ≡ 1 → ⊥) → log_meaning (front ++ gate ∷ behind) ≡ Ok (record { files = files; end = length front }) }
-    ensures ends { (bytes : List ℕ) (meaning : Meaning) → log_meaning bytes ≡ Ok meaning → EndsAt bytes meaning }
+    ensures ends { (bytes : List ℕ) (meaning : Meaning) → log_meaning bytes ≡ Ok meaning → EndsAt written_version bytes meaning }
     ensures view { (bytes : List ℕ) (meaning : Meaning) → log_meaning bytes ≡ Ok meaning → IsTrue (is_view meaning.files) }
     ensures lawful { (files : List NamedFile) (path : List ℕ) → IsTrue (is_view files) → IsTrue (names files path) → IsTrue (is_lawful path) × (is_reserved path ≡ false) }
 {}
@@ -25,4 +31,36 @@ pub fn a_written_batch_is_read_again()
     ensures leads { (version : ℕ) (front : List ℕ) (files more : List NamedFile) (entries : List LogEntry) → Reaches version front files → length (spell_all entries) < 2 ^ 32 → AllFit entries → all_added version files entries ≡ Some more → Reaches version (front ++ 1 ∷ batch_body entries) more }
     ensures means { (version : ℕ) (front : List ℕ) (files more : List NamedFile) (entries : List LogEntry) (behind : List ℕ) → Reaches version front files → length (spell_all entries) < 2 ^ 32 → AllFit entries → all_added version files entries ≡ Some more → log_meaning (front ++ 1 ∷ (batch_body entries ++ 0 ∷ behind)) ≡ Ok (record { files = more; end = length (front ++ 1 ∷ batch_body entries) }) }
     ensures view { (version : ℕ) (files more : List NamedFile) (entries : List LogEntry) → IsTrue (is_view files) → all_added version files entries ≡ Some more → IsTrue (is_view more) }
+{}
+
+/// Entries may be added in parts, one behind the other.
+pub fn a_batch_may_come_in_parts()
+    ensures { (version : ℕ) (files : List NamedFile) (entries behind : List LogEntry) → all_added version files (entries ++ behind) ≡ option_and_then (λ more. all_added version more behind) (all_added version files entries) }
+{}
+
+/// An entry touches the file of its number alone: each other file that is there afterwards was there
+/// before, as it is, and each that was there stays.
+pub fn an_entry_touches_its_file()
+    ensures touches { (version : ℕ) (files more : List NamedFile) (entry : LogEntry) (file : NamedFile) → added version files entry ≡ Some more → IsAmong file more → (file.number ≡ entry_number entry) ⊎ IsAmong file files }
+    ensures leaves { (version : ℕ) (files more : List NamedFile) (entry : LogEntry) (file : NamedFile) → added version files entry ≡ Some more → (file.number ≡ entry_number entry → ⊥) → IsAmong file files → IsAmong file more }
+{}
+
+/// A span more makes at most one span more of a file's, and none where it begins at the end of another;
+/// it makes as many bytes more as it has.
+pub fn a_span_more_is_at_most_one_more()
+    ensures one { (span : PlainSpan) (spans : List PlainSpan) → length (with_span span spans) ≤ length spans + 1 }
+    ensures beside { (span : PlainSpan) (spans : List PlainSpan) (last : ℕ) → IsTrue (are_apart spans) → last + 1 ≡ span.offset → IsTrue (has spans last) → length (with_span span spans) ≤ length spans }
+    ensures bytes { (span : PlainSpan) (spans : List PlainSpan) → total_of (with_span span spans) ≡ total_of spans + span.count }
+{}
+
+/// What is summed up over the files grows by no more than at the file of the number. So a span for
+/// which there was room beside others can be covered, whatever is covered first, and there still is
+/// room for the others.
+pub fn what_has_room_can_land()
+    ensures sums { (count : NamedFile → ℕ) (number more : ℕ) (span : PlainSpan) (files : List NamedFile) → IsTrue (is_rising files) → ((file : NamedFile) → IsAmong file files → file.number ≡ number → count (covering number span file) ≤ count file + more)
+        → sum_by count (map (covering number span) files) ≤ sum_by count files + more }
+    ensures lands { (files : List NamedFile) (number : ℕ) (span : PlainSpan) (cost spans bytes : ℕ) → IsTrue (is_rising files) → 0 < span.count → span.count ≤ MAX_BLOCK → IsTrue (list_any (is_room_in number span) files)
+        → HasRoomFor files (cost + spans) (span.count + bytes)
+        → ((file : NamedFile) → IsAmong file files → file.number ≡ number → length (with_span span file.have.spans) ≤ length file.have.spans + cost)
+        → IsTrue (can_cover files number span) × HasRoomFor (map (covering number span) files) spans bytes }
 {}

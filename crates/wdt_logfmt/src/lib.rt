@@ -21,7 +21,10 @@ mod writing;
 
 pub use entry::LogEntry;
 pub use fails::ReadLogFail;
-pub use laws::{a_closed_gate_ends_a_log, a_written_batch_is_read_again};
+pub use laws::{
+    a_batch_may_come_in_parts, a_closed_gate_ends_a_log, a_span_more_is_at_most_one_more,
+    a_written_batch_is_read_again, an_entry_touches_its_file, what_has_room_can_land,
+};
 pub use reading::read_log;
 pub use view::{LogFile, LogView};
 pub use writing::write_batch;

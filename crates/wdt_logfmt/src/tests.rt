@@ -167,7 +167,7 @@ fn is_whole(file: &LogFile, number: u32, path: &[u8], size: u64, stamp: u64) -> 
         && have.size == size
         && have.stamp == stamp
         && have.spans.total() == size
-        && have.spans.spans().len() == 1
+        && have.spans.count() == 1
 }
 
 // Appends a number in so many bytes, the high byte first.

@@ -7,9 +7,8 @@ use Rattle.std.proofs.lemmas.List.{reverse-reverse, get_or-reverse, get_or-take,
 use Rattle.std.proofs.lemmas.List.Sorted.{All-permutation, IsPermutation-reverse}
 use Rattle.std.proofs.lemmas.List.Sums.{list_all-from_AllPass}
 use Rattle.wdt_units.specs.declared.blocks.Block.{Block}
-use Rattle.wdt_units.specs.Blocks.{block_cmp, precedes, are_rising, count_of, AreDistinct, HaveSameBlocks}
-use Rattle.wdt_units.proofs.BlockOrder.{precedes_back, precedes_trans}
-use Rattle.wdt_units.proofs.BlockCounts.{count_of-cons, count_of-insert, count_of-permutation, count_of-reverse, other_at, rising_at, rising_from_sorted, rising_insert}
+use Rattle.wdt_claims.specs.Blocks.{block_cmp, precedes, are_rising, count_of, AreDistinct, HaveSameBlocks}
+use Rattle.wdt_claims.proofs.Shared.{precedes_back, precedes_trans, count_of-cons, count_of-insert, count_of-permutation, count_of-reverse, other_at, rising_at, rising_from_sorted, rising_insert}
 
 -- distinct blocks that were sorted and reversed
 pub made_rising : (given sorted back : List Block) → AreDistinct given → IsPermutation given sorted → IsSorted block_cmp sorted → back ≡ reverse sorted → are_rising (reverse back) ≡ true

@@ -1,6 +1,6 @@
 -- How a queue keeps its blocks: the greatest first, so that the least is taken from the end.
 use Rattle.std.specs.Prelude.{◌-◌, ◌≤◌, ◌<◌, ◌^◌, IsTrue, reverse, vec_len, vec_capacity}
-use Rattle.wdt_units.specs.Blocks.{are_rising}
+use Rattle.wdt_claims.specs.Blocks.{are_rising}
 use Rattle.wdt_queue.specs.declared.queue.Queue.TheInside.{Inside}
 use Rattle.wdt_queue.specs.Waiting.{Waiting}
 

@@ -1,6 +1,6 @@
 //! The queue.
 ghost use Rattle.std.specs.Prelude.{◌≡◌, ℕ, ◌+◌, ◌<◌, ◌^◌, ◌↔◌, [], ◌∷◌, length, vec_len, IfOk, IsTrue};
-ghost use Rattle.wdt_units.specs.Blocks.{are_rising, count_of, AreDistinct, HaveSameBlocks};
+ghost use Rattle.wdt_claims.specs.Blocks.{are_rising, count_of, AreDistinct, HaveSameBlocks};
 ghost use Rattle.wdt_queue.specs.Waiting.{TakesLeast};
 
 use std::marker::Model;

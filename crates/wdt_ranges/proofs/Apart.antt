@@ -104,3 +104,16 @@ lengths_are (x ∷ xs) = sum_by-cons count_of (plain_span x) (map plain_span xs)
 
 pub lengths_within : (xs : List Span) → are_apart (map plain_span xs) ≡ true → sum_by (λ (s : Span). s.length) xs ≤ 2 ^ 40
 lengths_within xs h = omega (arith, lengths_are xs, total_within 0 (map plain_span xs) h)
+
+-- a span of the code that stands in a set
+pub bounds_of : (ss : List PlainSpan) (k : ℕ) (d : PlainSpan) (s : Span) → are_apart ss ≡ true → k < length ss → get_or ss k d ≡ plain_span s → IsInBounds s
+bounds_of ss k d s h lt e =
+    let one = span_at 0 ss k d h lt in
+    record { some = omega (arith, one.some, ap count_of e); limit = omega (arith, one.limit, ap end_of e) }
+
+-- a set has no more spans than positions
+pub few_spans : (least : ℕ) (ss : List PlainSpan) → are_apart_from least ss ≡ true → length ss ≤ total_of ss
+few_spans least [] h = omega arith
+few_spans least (s ∷ ss) h =
+    let parts = apart_parts least s ss h in
+    omega (arith, sum_by-cons count_of s ss, few_spans (end_of s + 1) ss parts.rest, parts.span.some)

@@ -1,5 +1,6 @@
 pub mod Apart
-pub mod Parts
-pub mod Joins
+pub mod Chunked
 pub mod Gaps
 pub mod InOrder
+pub mod Joins
+pub mod Parts

@@ -193,6 +193,21 @@ not_covered ss at end s h span place before lt all = elim (cases_lt end (s.offse
       | inr none ↦ absurd (omega (arith, before.none (omega arith)))
     ]
 
+-- spans of a set begin in their order
+pub plain_rise : (least : ℕ) (ss : List PlainSpan) (i j : ℕ) (d : PlainSpan) → are_apart_from least ss ≡ true → i ≤ j → j < length ss → (get_or ss i d).offset ≤ (get_or ss j d).offset
+plain_rise least [] i j d h le lt = absurd (omega arith)
+plain_rise least (s ∷ ss) zero zero d h le lt = omega arith
+plain_rise least (s ∷ ss) (suc i) zero d h le lt = absurd (omega arith)
+plain_rise least (s ∷ ss) zero (suc j) d h le lt = omega (arith, begins_later (end_of s + 1) ss j (apart_parts least s ss h).rest (omega arith))
+  where
+    begins_later : (least : ℕ) (ts : List PlainSpan) (k : ℕ) → are_apart_from least ts ≡ true → k < length ts → least ≤ (get_or ts k d).offset
+    begins_later least [] k h lt = absurd (omega arith)
+    begins_later least (t ∷ ts) zero h lt = (apart_parts least t ts h).low
+    begins_later least (t ∷ ts) (suc k) h lt =
+        let parts = apart_parts least t ts h in
+        omega (arith, parts.low, begins_later (end_of t + 1) ts k parts.rest (omega arith))
+plain_rise least (s ∷ ss) (suc i) (suc j) d h le lt = plain_rise (end_of s + 1) ss i j d (apart_parts least s ss h).rest (omega arith) (omega arith)
+
 -- ---- spans of the code
 
 abbrev pub blank : Span
@@ -205,25 +220,13 @@ pub plain_length : (xs : List Span) → length (map plain_span xs) ≡ length xs
 plain_length xs = length-map xs plain_span
 
 pub offsets_rise : (xs : List Span) → are_apart (map plain_span xs) ≡ true → IsNonDecreasingBy (λ (s : Span). s.offset) xs
-offsets_rise xs h i j d le lt = go 0 xs i j h le lt
-  where
-    go : (least : ℕ) (ys : List Span) (i j : ℕ) → are_apart_from least (map plain_span ys) ≡ true → i ≤ j → j < length ys → (get_or ys i d).offset ≤ (get_or ys j d).offset
-    go least [] i j h le lt = absurd (omega arith)
-    go least (y ∷ ys) zero zero h le lt = omega arith
-    go least (y ∷ ys) (suc i) zero h le lt = absurd (omega arith)
-    go least (y ∷ ys) zero (suc j) h le lt =
-        let parts = apart_parts least (plain_span y) (map plain_span ys) h in
-        let later = begins_later (end_of (plain_span y) + 1) ys j parts.rest (omega arith) in
-        omega (arith, later)
-      where
-        begins_later : (least : ℕ) (zs : List Span) (k : ℕ) → are_apart_from least (map plain_span zs) ≡ true → k < length zs → least ≤ (get_or zs k d).offset
-        begins_later least [] k h lt = absurd (omega arith)
-        begins_later least (z ∷ zs) zero h lt = (apart_parts least (plain_span z) (map plain_span zs) h).low
-        begins_later least (z ∷ zs) (suc k) h lt =
-            let parts = apart_parts least (plain_span z) (map plain_span zs) h in
-            omega (arith, parts.low, begins_later (end_of (plain_span z) + 1) zs k parts.rest (omega arith))
-    go least (y ∷ ys) (suc i) (suc j) h le lt =
-        go (end_of (plain_span y) + 1) ys i j (apart_parts least (plain_span y) (map plain_span ys) h).rest (omega arith) (omega arith)
+offsets_rise xs h i j d le lt =
+    omega (
+      arith,
+      plain_rise 0 (map plain_span xs) i j (plain_span d) h le (omega (arith, plain_length xs)),
+      ap (λ (s : PlainSpan). s.offset) (plain_at xs i d (omega arith)),
+      ap (λ (s : PlainSpan). s.offset) (plain_at xs j d lt),
+    )
 
 pub place_from : (xs : List Span) (offset at : ℕ) → at ≤ length xs → AllWithin (λ (s : Span). nat_le s.offset offset ≡ true) xs 0 at → AllWithin (λ (s : Span). nat_le s.offset offset ≡ false) xs at (length xs)
     → IsPlace (map plain_span xs) offset at

@@ -6,16 +6,22 @@ use std::alloc::Global;
 use std::test::Fail;
 use wdt_units::Name;
 
-fn same(spans: &[Span], want: &[(u64, u64)]) -> bool {
-    if spans.len() != want.len() {
-        return false;
-    }
-    for at in 0..spans.len() {
-        if (spans[at].offset, spans[at].length) != want[at] {
+fn are(ranges: &Ranges, want: &[(u64, u64)]) -> bool {
+    for (span, want) in ranges.spans().zip(want) {
+        if (span.offset, span.length) != *want {
             return false;
         }
     }
-    true
+    ranges.count() == want.len()
+}
+
+fn same(spans: &[Span], want: &[(u64, u64)]) -> bool {
+    for (span, want) in spans.iter().zip(want) {
+        if (span.offset, span.length) != *want {
+            return false;
+        }
+    }
+    spans.len() == want.len()
 }
 
 #[test]
@@ -33,19 +39,39 @@ fn adds(rt: HostRuntime) -> Result<(), Fail> {
         (19, 1, None, &[(0, 12), (14, 1), (19, 6)]),
     ] {
         assert!(rt; offset < 100 && length > 0 && length < 100);
-        let got = match ranges.add(Span { offset, length }) {
+        let span = Span { offset, length };
+        assert_eq!(rt; ranges.first_shared(span), first, "{offset} {length}");
+        let got = match ranges.add(span) {
             Ok(()) => None,
             Err(AddFail::Overlap { first }) => Some(first),
             Err(AddFail::NoMemory) => Some(100),
         };
-        assert!(rt;
-            got == first && same(ranges.spans(), spans),
-            "{offset} {length}"
-        );
+        assert!(rt; got == first && are(&ranges, spans), "{offset} {length}");
     }
     assert_eq!(rt; ranges.total(), 19);
     let copy = ranges.copy()?;
-    assert!(rt; same(copy.spans(), &[(0, 12), (14, 1), (19, 6)]));
+    assert!(rt; are(&copy, &[(0, 12), (14, 1), (19, 6)]));
+    Ok(())
+}
+
+// More spans than a chunk takes: falling, and then what is between them in an order that jumps.
+#[test]
+fn adds_in_any_order(rt: HostRuntime) -> Result<(), Fail> {
+    let mut ranges = Ranges::none(rt.alloc());
+    for k in 0..1499u64 {
+        ranges.add(Span {
+            offset: 2 * (1499 - k),
+            length: 1,
+        })?;
+    }
+    assert_eq!(rt; (ranges.count(), ranges.total()), (1499, 1499));
+    for k in 0..1499u64 {
+        ranges.add(Span {
+            offset: 2 * (7 * k % 1499) + 1,
+            length: 1,
+        })?;
+    }
+    assert!(rt; are(&ranges, &[(1, 2998)]));
     Ok(())
 }
 
@@ -96,7 +122,7 @@ fn tells_the_order(rt: HostRuntime) -> Result<(), Fail> {
         let have = Have::of(files).copy()?;
         assert_eq!(rt; have.in_order(), want);
         for file in have.files() {
-            assert!(rt; file.size == 5 && file.stamp == 7 && same(file.spans.spans(), &[(1, 2)]));
+            assert!(rt; file.size == 5 && file.stamp == 7 && are(&file.spans, &[(1, 2)]));
         }
     }
     Ok(())

@@ -8,7 +8,7 @@ use Rattle.std.specs.Option.{option_map}
 use Rattle.wdt_units.specs.Tree.{File, file_of, is_tree}
 use Rattle.wdt_tree.specs.Shown.{entry_of_file}
 use Rattle.wdt_tree.specs.declared.entry.Entry.{Entry}
-use Rattle.wdt_tree.proofs.Files.{file_from_entry, file_of-at, rising}
+use Rattle.wdt_tree.proofs.Shared.{file_from_entry, file_of-at, rising}
 use Rattle.wdt_source.specs.Told.{IsRead, is_within, is_within_file}
 use Rattle.wdt_rehearsal.specs.Landing.{AddsBlock, HasSize, HasBytes}
 

@@ -8,7 +8,7 @@ use Rattle.wdt_tree.specs.declared.entry.Entry.{Entry}
 use Rattle.wdt_tree.specs.declared.entry.RawEntry.{RawEntry}
 use Rattle.wdt_tree.specs.Listing.{entry_of, is_in_order, is_below_entry, Orders}
 use Rattle.wdt_tree.specs.Shown.{entry_of_file}
-use Rattle.wdt_tree.proofs.Files.{rising}
+use Rattle.wdt_tree.proofs.Shared.{rising}
 use Rattle.wdt_source.specs.Told.{IsListed}
 use Rattle.wdt_rehearsal.proofs.Unique.{one-order}
 

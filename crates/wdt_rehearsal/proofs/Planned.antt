@@ -10,11 +10,9 @@ use Rattle.wdt_tree.specs.declared.manifest.ManifestFail.TheVariants as fail
 use Rattle.wdt_tree.specs.Cuts.{cuts}
 use Rattle.wdt_tree.specs.Listing.{IsAccepted, IsRefused, Orders, Refuses}
 use Rattle.wdt_tree.specs.Rest.{IsRest}
-use Rattle.wdt_tree.proofs.Cuts.{cuts_rest}
-use Rattle.wdt_tree.proofs.Refusals.{accepts}
-use Rattle.wdt_tree.proofs.RestOnce.{rest_once}
+use Rattle.wdt_tree.proofs.Shared.{accepts, cuts_rest, rest_once}
 use Rattle.wdt_rest.specs.RestOf.{IsHave, rest_of}
-use Rattle.wdt_rest.proofs.Whole.{list_is_rest}
+use Rattle.wdt_rest.proofs.Shared.{list_is_rest}
 use Rattle.wdt_discover.specs.declared.fail.PlanFail.{PlanFail}
 use Rattle.wdt_discover.specs.declared.fail.PlanFail.TheVariants as plans
 use Rattle.wdt_discover.specs.Plan.{refusal, too_many}

@@ -1,3 +1,2 @@
-pub mod Pieces
-pub mod Gaps
-pub mod Whole
+pub mod lemmas
+pub mod Shared

@@ -1,2 +1,4 @@
 pub mod Fitting
+pub mod Refusal
 pub mod RestOf
+pub mod Together

@@ -16,6 +16,7 @@ use Rattle.wdt_sender_fsm.specs.PlainSender.{PlainSender, is_closed, state_at, e
 use Rattle.wdt_sender_fsm.specs.SenderHistory.{end_of}
 use Rattle.wdt_sender_fsm.specs.Rules.{is_failure}
 
+-- the source failed
 abbrev pub is_source_lost : SendIn → Bool
 is_source_lost (inputs.SourceLost unwritten) = true
 is_source_lost _ = false

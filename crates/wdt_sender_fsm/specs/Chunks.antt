@@ -1,13 +1,13 @@
 -- What a destination has, as it is told: its order, how it differs from what was told before, and
 -- why the tree isn't sent to it.
-use Rattle.std.specs.Prelude.{ℕ, ◌+◌, ◌==◌, ◌&&◌, nat_lt, Bool, true, false, if◌then◌else◌, List, [], ◌∷◌, length, Option, Some, None}
+use Rattle.std.specs.Prelude.{ℕ, ◌+◌, ◌==◌, ◌&&◌, Bool, true, false, if◌then◌else◌, List, [], ◌∷◌, Option, Some, None}
 use Rattle.std.specs.Option.{option_map}
 use Rattle.std.specs.Str.{bytes_eq}
 use Rattle.wdt_units.specs.Have.{PlainSpan, HaveFile}
 use Rattle.wdt_units.specs.Tree.{is_before}
 use Rattle.wdt_tree.specs.declared.entry.Entry.{Entry}
-use Rattle.wdt_rest.specs.Fitting.{found_in, first_unfit}
-use Rattle.wdt_rest.specs.RestOf.{rest_of}
+use Rattle.wdt_rest.specs.Fitting.{first_unfit}
+use Rattle.wdt_rest.specs.Refusal.{refusal_after_as, refusal_as, stale_as, too_many_as}
 use Rattle.wdt_sender_fsm.specs.declared.answers.RefusedKind.{RefusedKind}
 use Rattle.wdt_sender_fsm.specs.declared.answers.RefusedKind.TheVariants.{Stale, TooManyBlocks}
 
@@ -25,14 +25,17 @@ unordered_at (file ∷ files) = unordered_from 1 file.path files
 
 -- ---- how it differs
 
+-- two spans are one
 abbrev pub is_same_span : PlainSpan → PlainSpan → Bool
 is_same_span a b = a.offset == b.offset && a.count == b.count
 
+-- two lists of spans are one
 abbrev pub are_same_spans : List PlainSpan → List PlainSpan → Bool
 are_same_spans [] [] = true
 are_same_spans (a ∷ xs) (b ∷ ys) = is_same_span a b && are_same_spans xs ys
 are_same_spans _ _ = false
 
+-- the same is told of one file: path, size, stamp and spans
 abbrev pub is_same_file : HaveFile → HaveFile → Bool
 is_same_file a b = bytes_eq a.path b.path && a.size == b.size && a.stamp == b.stamp && are_same_spans a.spans b.spans
 
@@ -50,21 +53,21 @@ different_at first later = different_from 0 first later
 
 -- what is said of a file that isn't
 abbrev pub stale_of : List Entry → HaveFile → RefusedKind
-stale_of entries file = Stale file.path (file.size, file.stamp) (found_in entries file.path)
+stale_of = stale_as Stale
 
 -- the first file that isn't one of the tree
 abbrev pub first_stale : List Entry → List HaveFile → Option RefusedKind
 first_stale entries have = option_map (stale_of entries) (first_unfit entries have)
 
--- more than 1,048,576 blocks are too many
+-- more blocks than a plan may have are too many
 abbrev pub too_many : ℕ → Option RefusedKind
-too_many count = if nat_lt 1048576 count then Some (TooManyBlocks count) else None
+too_many = too_many_as TooManyBlocks
 
 -- the one thing for which the tree isn't sent, if any: a file that isn't one of the tree, else too many
 -- blocks
 abbrev pub refusal_after : List Entry → List HaveFile → ℕ → Option RefusedKind → Option RefusedKind
-refusal_after entries have most (Some stale) = Some stale
-refusal_after entries have most None = too_many (length (rest_of entries have most))
+refusal_after = refusal_after_as TooManyBlocks
 
+-- why the tree isn't sent to a destination that has so much, if so
 abbrev pub refusal : List Entry → List HaveFile → ℕ → Option RefusedKind
-refusal entries have most = refusal_after entries have most (first_stale entries have)
+refusal = refusal_as Stale TooManyBlocks

@@ -1,10 +1,10 @@
 -- What a receiver may not say, with the counts of blocks that it tells.
 use Rattle.std.specs.Prelude.{ℕ, ◌==◌, ◌||◌, not, nat_le, Bool, true, false, List, [], ◌∷◌, Option, Some, None, option_map}
 use Rattle.std.specs.List.{list_any}
-use Rattle.wdt_units.specs.LaneWords.{Claims}
-use Rattle.wdt_units.specs.Checks.{fault_of}
-use Rattle.wdt_units.specs.declared.check.CheckFail.{CheckFail}
-use Rattle.wdt_units.specs.declared.check.CheckFail.TheVariants as fails
+use Rattle.wdt_claims.specs.LaneWords.{Claims}
+use Rattle.wdt_claims.specs.Checks.{fault_of}
+use Rattle.wdt_claims.specs.declared.check.CheckFail.{CheckFail}
+use Rattle.wdt_claims.specs.declared.check.CheckFail.TheVariants as fails
 use Rattle.wdt_codec.specs.declared.frames.Frame.{Frame}
 use Rattle.wdt_codec.specs.declared.frames.Mark.{Mark}
 use Rattle.wdt_sender_fsm.specs.declared.events.SendEvent.{SendEvent}
@@ -46,6 +46,7 @@ marks_fault h (m ∷ ms) = or_else (count_fault (past_of h m.lane.0).claims m.co
 abbrev pub is_stranger : ℕ → ℕ → Mark → Bool
 is_stranger n l m = nat_le n m.lane.0 || m.lane.0 == l
 
+-- one of some marks is so
 abbrev pub has_stranger : ℕ → ℕ → List Mark → Bool
 has_stranger n l ms = list_any (is_stranger n l) ms
 
@@ -58,5 +59,6 @@ is_unexpected n l is_listed DoneAtOnce = not is_listed
 is_unexpected n l is_listed (Marked ms) = has_stranger n l ms
 is_unexpected n l is_listed _ = false
 
+-- the same of a frame that is read where a lane stands in a state
 abbrev pub has_no_row : ℕ → ℕ → Bool → SendState → Frame → Bool
 has_no_row n l is_listed state frame = is_unexpected n l is_listed (row_of state (Got frame))

@@ -1,8 +1,8 @@
 -- Which entries may follow a history, and which histories are legal.
-use Rattle.std.specs.Prelude.{◌≡◌, ◌≢◌, ◌⊎◌, ℕ, ◌+◌, ◌<◌, ◌≤◌, not, Bool, true, false, List, [], ◌∷◌, ◌++◌, length, Option, Some, None}
+use Rattle.std.specs.Prelude.{◌≡◌, ◌≢◌, ◌⊎◌, ℕ, ◌+◌, ◌<◌, ◌≤◌, not, Bool, true, false, List, [], ◌∷◌, ◌++◌, length, Some, None}
 use Rattle.std.proofs.Common.{subst, sym, append_assoc, append-nil}
-use Rattle.wdt_units.specs.LaneWords.{Claims}
 use Rattle.wdt_units.specs.declared.blocks.Block.{Block}
+use Rattle.wdt_units.specs.declared.limits.TheConstants.{MAX_CONNECTIONS, MAX_FILES, MAX_TRIES}
 use Rattle.wdt_codec.specs.declared.frames.Frame.{Frame}
 use Rattle.wdt_sender_fsm.specs.declared.events.SendEvent.{SendEvent}
 use Rattle.wdt_sender_fsm.specs.declared.events.SendEvent.TheVariants.{Linked, NoLink, Lost, Greet, Chunks, Claim, Sent, Done, Global, Finish, Acked, Quit, Abort, Peer}
@@ -10,7 +10,7 @@ use Rattle.wdt_sender_fsm.specs.declared.peers.PeerKind.{PeerKind}
 use Rattle.wdt_sender_fsm.specs.declared.peers.PeerKind.TheVariants as peers
 use Rattle.wdt_sender_fsm.specs.declared.states.SendState.{SendState}
 use Rattle.wdt_sender_fsm.specs.declared.states.SendState.TheVariants as states
-use Rattle.wdt_sender_fsm.specs.Faults.{has_no_row}
+use Rattle.wdt_sender_fsm.specs.Faults.{count_fault, has_no_row}
 use Rattle.wdt_sender_fsm.specs.Places.{claims_of, holding, least_of, queued, unfinished}
 use Rattle.wdt_sender_fsm.specs.Rows.{place_of, command_of}
 use Rattle.wdt_sender_fsm.specs.SenderHistory.{LanePast, past_of, end_of, lane_of}
@@ -34,20 +34,6 @@ needs_link (NoLink l) = false
 needs_link (Quit l) = false
 needs_link _ = true
 
--- ---- counts
-
--- at least what has surely landed, and at most what was claimed
-abbrev pub IsWithin : Claims → ℕ → Type 0
-IsWithin s n = (s.sure ≤ n) × (n ≤ length s.kept)
-
--- a lane's count: where it is closed, the one that closed it
-abbrev pub TellsBy : Option ℕ → Claims → ℕ → Type 0
-TellsBy None s n = IsWithin s n
-TellsBy (Some before) s n = n ≡ before
-
-abbrev pub Tells : Claims → ℕ → Type 0
-Tells s n = TellsBy s.closed s n
-
 -- ---- what the receiver may not say
 
 -- the lane reads, and where it waits for a count none has been told
@@ -66,31 +52,28 @@ pub record IsUnexpected (n : ℕ) (h : List SendEvent) (l state command : ℕ) :
   pub byte : command ≡ command_of frame
   pub no_row : has_no_row n l (end_of h).is_listed at frame ≡ true
 
--- a count of a lane that isn't closed, below what has surely landed or above what was claimed
-pub record IsBadCount (n : ℕ) (h : List SendEvent) (count low high : ℕ) : Type 0 where
+-- a count that can't be right: of one of n lanes, of another than the lane that reads it or of that lane
+-- while it isn't closed
+pub record IsWrongCount (n : ℕ) (h : List SendEvent) (l : ℕ) (kind : PeerKind) : Type 0 where
   pub of : ℕ
+  pub count : ℕ
   pub within : of < n
-  pub is_open : (past_of h of).claims.closed ≡ None
-  pub surely : low ≡ (past_of h of).claims.sure
-  pub claimed : high ≡ length (past_of h of).claims.kept
-  pub out : (count < low) ⊎ (high < count)
+  pub whose : (of ≢ l) ⊎ ((past_of h of).claims.closed ≡ None)
+  pub wrong : count_fault (past_of h of).claims count ≡ Some kind
 
--- a closed lane's count that isn't the one that closed it
-pub record IsOtherCount (n : ℕ) (h : List SendEvent) (l count before : ℕ) : Type 0 where
-  pub of : ℕ
-  pub within : of < n
-  pub other : of ≢ l
-  pub closed : (past_of h of).claims.closed ≡ Some before
-  pub out : count ≢ before
+-- a lane may read: behind its greeting it isn't writing a block
+abbrev pub MayRead : LanePast → Type 0
+MayRead past = (past.is_greeted ≡ false) ⊎ (past.claims.held ≡ false)
 
--- what a sender may say that the receiver did wrong
+-- what a sender may say that the receiver did wrong. The place of a file is one of a list that is told, and
+-- of lists that differ at most the length of the first.
 abbrev pub IsFault : ℕ → List Block → List SendEvent → ℕ → PeerKind → Type 0
-IsFault n planned h l (peers.BadFrame at) = Unit {0}
+IsFault n planned h l (peers.BadFrame at) = MayRead (past_of h l)
 IsFault n planned h l (peers.Unexpected state command) = IsUnexpected n h l state command
-IsFault n planned h l (peers.BadCheckpoint count low high) = IsBadCount n h count low high
-IsFault n planned h l (peers.Differs count before) = IsOtherCount n h l count before
-IsFault n planned h l (peers.BadChunks at) = ((past_of h l).is_greeted ≡ true) × (1 ≤ at)
-IsFault n planned h l (peers.ChunksDiffer at) = ((past_of h l).is_greeted ≡ true) × ((end_of h).is_listed ≡ true)
+IsFault n planned h l (peers.BadCheckpoint count low high) = IsWrongCount n h l (peers.BadCheckpoint count low high)
+IsFault n planned h l (peers.Differs count before) = IsWrongCount n h l (peers.Differs count before)
+IsFault n planned h l (peers.BadChunks at) = ((past_of h l).is_greeted ≡ true) × (1 ≤ at) × (at < MAX_FILES)
+IsFault n planned h l (peers.ChunksDiffer at) = ((past_of h l).is_greeted ≡ true) × ((end_of h).is_listed ≡ true) × (at ≤ MAX_FILES)
 IsFault n planned h l (peers.EarlyDone count) = ((end_of h).is_listed ≡ true) × (count ≡ unfinished n planned h) × (1 ≤ count)
 IsFault n planned h l _ = ⊥
 
@@ -98,25 +81,26 @@ IsFault n planned h l _ = ⊥
 
 -- what else must hold, where of n lanes the blocks that were planned are to be sent
 abbrev pub Fits : ℕ → List Block → List SendEvent → SendEvent → Type 0
-Fits n planned h (Linked l c) = (c.0 ≡ (past_of h l.0).connections + 1) × (c.0 ≤ 8)
-Fits n planned h (NoLink l) = (past_of h l.0).failed_tries < 8
+Fits n planned h (Linked l c) = (c.0 ≡ (past_of h l.0).connections + 1) × (c.0 ≤ MAX_CONNECTIONS)
+Fits n planned h (NoLink l) = (past_of h l.0).failed_tries < MAX_TRIES
 Fits n planned h (Lost l) = Unit {0}
-Fits n planned h (Greet l count) = IsWithin (past_of h l.0).claims count
+Fits n planned h (Greet l count) = count_fault (past_of h l.0).claims count ≡ None
 Fits n planned h (Chunks l) = (past_of h l.0).is_greeted ≡ true
 Fits n planned h (Claim l b) = ((end_of h).is_listed ≡ true) × (least_of (queued n planned h) ≡ Some b) × ((past_of h l.0).claims.held ≡ false)
 Fits n planned h (Sent l) = (past_of h l.0).claims.held ≡ true
 Fits n planned h (Done l) = (past_of h l.0).claims.held ≡ false
-Fits n planned h (Global k l count) = (k.0 ≢ l.0) × (l.0 < n) × Tells (past_of h l.0).claims count
+Fits n planned h (Global k l count) = (k.0 ≢ l.0) × (l.0 < n) × (count_fault (past_of h l.0).claims count ≡ None)
 Fits n planned h (Finish l) = ((end_of h).is_listed ≡ true) × (queued n planned h ≡ []) × (holding (claims_of n h) ≡ 0)
 Fits n planned h (Acked l) = ((end_of h).has_finish ≡ true) × ((past_of h l.0).has_finish ≡ true)
-Fits n planned h (Quit l) = (8 ≤ (past_of h l.0).connections) ⊎ (8 ≤ (past_of h l.0).failed_tries)
-Fits n planned h (Abort l code) = Unit {0}
+Fits n planned h (Quit l) = (MAX_CONNECTIONS ≤ (past_of h l.0).connections) ⊎ (MAX_TRIES ≤ (past_of h l.0).failed_tries)
+Fits n planned h (Abort l code) = MayRead (past_of h l.0) × (code ≤ 255)
 Fits n planned h (Peer l kind) = IsFault n planned h l.0 kind
 
 -- an entry is allowed by those before it
 abbrev pub IsAllowed : ℕ → List Block → List SendEvent → SendEvent → Type 0
 IsAllowed n planned h e = MaySpeak n h (lane_of e) (needs_link e) × Fits n planned h e
 
+-- behind a history each of some entries is allowed by those before it
 abbrev pub legal_from : ℕ → List Block → List SendEvent → List SendEvent → Type 0
 legal_from n planned before [] = Unit {0}
 legal_from n planned before (e ∷ es) = IsAllowed n planned before e × legal_from n planned (before ++ e ∷ []) es
@@ -142,10 +126,22 @@ IsLegal-none n planned = tt
 -- ---- what a legal history says of a lane
 
 -- what has surely landed was claimed, and of a block that is being written it isn't known; the count of
--- a closed lane is all that it keeps; and no lane has more than eight connections, or tries that failed
+-- a closed lane is all that it keeps; no lane has more than eight connections, or tries that failed; one
+-- that was given up had eight of either; and one that is acknowledged read the receiver's last word on its
+-- connection
 pub record IsSound (s : LanePast) : Type 0 where
   pub sure : s.claims.sure ≤ length s.claims.kept
   pub held : s.claims.held ≡ true → s.claims.sure < length s.claims.kept
   pub closed : (n : ℕ) → s.claims.closed ≡ Some n → (n ≡ s.claims.sure) × (n ≡ length s.claims.kept)
-  pub connections : s.connections ≤ 8
-  pub failed_tries : s.failed_tries ≤ 8
+  pub connections : s.connections ≤ MAX_CONNECTIONS
+  pub failed_tries : s.failed_tries ≤ MAX_TRIES
+  pub quit : s.has_quit ≡ true → (MAX_CONNECTIONS ≤ s.connections) ⊎ (MAX_TRIES ≤ s.failed_tries)
+  pub acked : s.is_acked ≡ true → s.has_finish ≡ true
+
+-- once a lane read the receiver's last word: what the destination has is known, no block waits, none is
+-- being written, and all that lanes keep has surely landed
+pub record HasLanded (n : ℕ) (planned : List Block) (h : List SendEvent) : Type 0 where
+  pub listed : (end_of h).is_listed ≡ true
+  pub none : queued n planned h ≡ []
+  pub unheld : (l : ℕ) → (past_of h l).claims.held ≡ false
+  pub sure : (l : ℕ) → (past_of h l).claims.sure ≡ length (past_of h l).claims.kept

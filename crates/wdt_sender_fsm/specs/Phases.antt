@@ -1,6 +1,7 @@
 -- What the two ends of a connection say in turn.
 use Rattle.std.specs.Prelude.{◌≡◌, ◌⊎◌, ℕ, ◌+◌, ◌-◌, ◌*◌, ◌/◌, ◌==◌, min, Bool, true, false, if◌then◌else◌, List, [], ◌∷◌, Option, Some, None}
 use Rattle.std.specs.Option.{option_and_then}
+use Rattle.wdt_units.specs.declared.limits.TheConstants.{PIECE}
 use Rattle.wdt_units.specs.declared.numbers.Lane.{Lane}
 use Rattle.wdt_codec.specs.declared.frames.Frame.{Frame}
 use Rattle.wdt_codec.specs.declared.frames.Frame.TheVariants as frames
@@ -13,7 +14,7 @@ use Rattle.wdt_sender_fsm.specs.declared.states.SendState.{SendState}
 use Rattle.wdt_sender_fsm.specs.declared.states.SendState.TheVariants as states
 use Rattle.wdt_sender_fsm.specs.Places.{tabulate}
 use Rattle.wdt_sender_fsm.specs.PlainSender.{PlainSender, lane_at, past_at}
-use Rattle.wdt_sender_fsm.specs.Rows.{Row, Over as RowOver, Starved, Stray, Aborted, BadFrame, SourceLost, Unexpected}
+use Rattle.wdt_sender_fsm.specs.Rows.{Row, Over as RowOver, Starved, Stray, Aborted, BadFrame, SourceLost, Unexpected, is_reading}
 use Rattle.wdt_sender_fsm.specs.Rules.{is_failure}
 use Rattle.wdt_sender_fsm.specs.Talk.{Talk, moved}
 
@@ -45,7 +46,7 @@ pub data Message : Type 0 where
 
 -- the most bytes of a piece
 abbrev pub piece_most : ℕ
-piece_most = 65536
+piece_most = PIECE
 
 -- behind a block's header or a piece so many bytes of the block are left
 abbrev pub with_left : ℕ → Phase
@@ -92,19 +93,23 @@ said = moved down
 
 -- what a sender writes for an act: of a block the header, and its bytes in pieces
 abbrev pub pieces_in : ℕ → ℕ
-pieces_in n = (n + 65535) / piece_most
+pieces_in n = (n + (PIECE - 1)) / PIECE
 
+-- piece k of a block of n bytes
 abbrev pub piece_at : ℕ → ℕ → Message
 piece_at n k = Piece (min (n - piece_most * k) piece_most)
 
+-- a block's bytes in pieces
 abbrev pub pieces_of : ℕ → List Message
 pieces_of n = tabulate (pieces_in n) (piece_at n)
 
+-- what is written by an act
 abbrev pub written_by : SendAct → List Message
 written_by (acts.Write frame) = Framed frame ∷ []
 written_by (acts.SendBlock header) = Framed (frames.Block header) ∷ pieces_of header.length
 written_by _ = []
 
+-- nothing more is said, where that is so
 abbrev pub over_if : Bool → Option Phase
 over_if true = Some Over
 over_if false = None
@@ -122,6 +127,7 @@ phase_by ask acked states.AnswerDone = Some Bye
 phase_by ask acked states.Ended = over_if acked
 phase_by ask acked _ = None
 
+-- the phase of a lane that stands so
 abbrev pub phase_of : SendLane → Bool → Option Phase
 phase_of lane acked = phase_by lane.ask acked lane.state
 
@@ -134,9 +140,11 @@ phase_written ask states.SendDone = Some Asked
 phase_written ask states.AnswerDone = Some Over
 phase_written ask _ = None
 
+-- the phase behind a frame that is read in a phase, where it is a move
 abbrev pub phase_heard : Frame → Option Phase → Option Phase
 phase_heard frame phase = option_and_then (λ p. up p frame) phase
 
+-- the phase of a lane whose connection stands
 abbrev pub phase_linked : SendState → Option Phase
 phase_linked states.Connect = Some Open
 phase_linked _ = None
@@ -148,19 +156,31 @@ phase_holding lane (inputs.Got frame) = phase_heard frame (phase_by lane.ask fal
 phase_holding lane inputs.Linked = phase_linked lane.state
 phase_holding lane _ = None
 
+-- the frame tells that the end has failed
 abbrev pub is_abort : Frame → Bool
 is_abort (frames.Abort code) = true
 is_abort _ = false
 
--- what a lane in a state is to write leads from its phase to the one that follows the writing
-abbrev pub Leads : List Message → Option Phase → Option Phase → Type 0
-Leads messages before after = option_and_then (said messages) before ≡ after
+-- what is written are moves of a phase that is there, and leads to the one that follows the writing
+pub record Leads (messages : List Message) (phase written : Option Phase) : Type 0 where
+  pub from : Phase
+  pub to : Phase
+  pub before : phase ≡ Some from
+  pub moves : said messages from ≡ Some to
+  pub after : written ≡ Some to
 
--- an act fits the lane that gets it: but for an Abort, what it writes are moves of the lane's phase
+-- a lane that stands so has the word, and these messages lead from its phase to the one behind them
+abbrev pub LeadsOn : SendLane → List Message → Type 0
+LeadsOn lane messages = Leads messages (phase_of lane false) (phase_written lane.ask lane.state)
+
+-- an act fits the lane that gets it: a lane dials where it has no connection, reads where the receiver has
+-- the word, and writes what are moves of its phase; or it tells that the end has failed
 abbrev pub FitsLane : SendLane → SendAct → Type 0
-FitsLane lane (acts.Write frame) = (is_abort frame ≡ true) ⊎ Leads (written_by (acts.Write frame)) (phase_of lane false) (phase_written lane.ask lane.state)
-FitsLane lane (acts.SendBlock header) = Leads (written_by (acts.SendBlock header)) (phase_of lane false) (phase_written lane.ask lane.state)
-FitsLane lane _ = Unit {0}
+FitsLane lane (acts.Dial conn) = lane.state ≡ states.Connect
+FitsLane lane (acts.Write frame) = ((is_abort frame ≡ true) × (lane.state ≡ states.SendAbort)) ⊎ LeadsOn lane (written_by (acts.Write frame))
+FitsLane lane (acts.SendBlock header) = LeadsOn lane (written_by (acts.SendBlock header))
+FitsLane lane acts.Read = is_reading lane.state ≡ true
+FitsLane lane acts.Stop = Unit {0}
 
 -- a row of the table, and not one of the rules before it
 abbrev pub is_named : Row → Bool

@@ -1,10 +1,10 @@
 -- What the lanes have claimed and which blocks wait, read off the history.
 use Rattle.std.specs.Prelude.{◌≡◌, refl, ℕ, zero, suc, ◌+◌, Bool, List, [], ◌∷◌, ◌++◌, length, filter, count_by, Option, Some, None, true, false}
-use Rattle.wdt_units.specs.Blocks.{count_of}
-use Rattle.wdt_units.specs.LaneWords.{Claims}
+use Rattle.wdt_claims.specs.Blocks.{count_of}
+use Rattle.wdt_claims.specs.LaneWords.{Claims}
 use Rattle.wdt_units.specs.declared.blocks.Block.{Block}
-use Rattle.wdt_units.specs.Claimed.{count_kept, is_held}
-use Rattle.wdt_units.specs.Places.{is_queued}
+use Rattle.wdt_claims.specs.Claimed.{count_kept, is_held}
+use Rattle.wdt_claims.specs.Places.{is_queued}
 use Rattle.wdt_sender_fsm.specs.declared.events.SendEvent.{SendEvent}
 use Rattle.wdt_sender_fsm.specs.declared.events.SendEvent.TheVariants.{Greet, Claim, Sent, Global, Finish}
 use Rattle.wdt_sender_fsm.specs.SenderHistory.{past_of}
@@ -22,6 +22,7 @@ claims_of n h = tabulate n (λ l. (past_of h l).claims)
 unfoldable pub planned_now : List Block → List SendEvent → List Block
 planned_now planned h = planned
 
+-- in this version of the wire that is all that was planned
 pub planned_now-is : (planned : List Block) (h : List SendEvent) → planned_now planned h ≡ planned
 unfolding planned_now
 planned_now-is planned h = refl
@@ -53,6 +54,7 @@ unfinished n planned h = length (queued n planned h) + holding (claims_of n h)
 
 -- ---- which entries change what lanes have claimed
 
+-- the entry changes what some lane has claimed
 abbrev pub changes_claims : SendEvent → Bool
 changes_claims (Greet l n) = true
 changes_claims (Claim l b) = true

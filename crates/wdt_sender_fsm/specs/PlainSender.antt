@@ -1,17 +1,17 @@
 -- A sender's end as plain data. What its lanes have claimed, what waits and how often each was
 -- connected isn't kept beside the history, since the history says it.
 use Rattle.std.specs.Prelude.{ℕ, ◌&&◌, ◌||◌, Bool, true, false, List, [], ◌++◌, length, sum_by, slice_get, slice_set, is_some, Option, Some, None}
-use Rattle.wdt_units.specs.Blocks.{AreDistinct}
+use Rattle.wdt_claims.specs.Blocks.{AreDistinct}
 use Rattle.wdt_units.specs.Have.{HaveFile}
-use Rattle.wdt_units.specs.LaneWords.{Claims}
+use Rattle.wdt_claims.specs.LaneWords.{Claims}
 use Rattle.wdt_units.specs.declared.blocks.Block.{Block}
 use Rattle.wdt_units.specs.declared.blocks.Header.{Header}
 use Rattle.wdt_units.specs.declared.numbers.Conn.{Conn}
 use Rattle.wdt_units.specs.declared.numbers.Lane.{Lane}
 use Rattle.wdt_codec.specs.declared.frames.Frame.{Frame}
 use Rattle.wdt_codec.specs.declared.frames.Frame.TheVariants as frames
-use Rattle.wdt_units.specs.Places.{place_of}
-use Rattle.wdt_units.specs.declared.place.Place.{Place}
+use Rattle.wdt_claims.specs.Places.{place_of}
+use Rattle.wdt_claims.specs.declared.place.Place.{Place}
 use Rattle.wdt_tree.specs.Listing.{size_of}
 use Rattle.wdt_tree.specs.declared.entry.Entry.{Entry}
 use Rattle.wdt_sender_fsm.specs.declared.answers.EndAnswer.{EndAnswer}
@@ -20,10 +20,11 @@ use Rattle.wdt_sender_fsm.specs.declared.events.SendEvent.{SendEvent}
 use Rattle.wdt_sender_fsm.specs.declared.states.SendLane.{SendLane}
 use Rattle.wdt_sender_fsm.specs.declared.states.SendState.{SendState}
 use Rattle.wdt_sender_fsm.specs.declared.states.SendState.TheVariants as states
-use Rattle.wdt_sender_fsm.specs.Places.{AreShared, claims_of, least_of, queued, unfinished}
+use Rattle.wdt_sender_fsm.specs.Places.{AreShared, claims_of, least_of, planned_now, queued, unfinished}
 use Rattle.wdt_sender_fsm.specs.Rules.{every, judged}
 use Rattle.wdt_sender_fsm.specs.SenderHistory.{LanePast, past_of, end_of}
 
+-- all that a step of a sender hangs on
 pub record PlainSender : Type 0 where
   -- the files of the tree, in the order of their paths
   pub manifest : List Entry
@@ -60,16 +61,20 @@ opened manifest block session lanes =
 
 -- ---- its lanes
 
+-- a lane that isn't there counts as one that has ended
 abbrev pub lane_or_ended : Option SendLane → SendLane
 lane_or_ended None = record { state = states.Ended; ask = false }
 lane_or_ended (Some lane) = lane
 
+-- how lane l stands
 abbrev pub lane_at : PlainSender → ℕ → SendLane
 lane_at s l = lane_or_ended (slice_get s.lanes l)
 
+-- its state
 abbrev pub state_at : PlainSender → ℕ → SendState
 state_at s l = (lane_at s l).state
 
+-- what the history says of it
 abbrev pub past_at : PlainSender → ℕ → LanePast
 past_at s l = past_of s.history l
 
@@ -77,12 +82,14 @@ past_at s l = past_of s.history l
 abbrev pub is_closed : PlainSender → ℕ → Bool
 is_closed s l = is_some (past_at s l).claims.closed
 
+-- the lane is through with everything
 abbrev pub is_ended : SendState → Bool
 is_ended states.Ended = true
 is_ended _ = false
 
 -- ---- its blocks
 
+-- the blocks of a plan, none where there is no plan
 abbrev pub listed_blocks : Option (List Block) → List Block
 listed_blocks None = []
 listed_blocks (Some blocks) = blocks
@@ -105,8 +112,8 @@ block_place s b = place_of b (lanes_claims s)
 
 -- each block of the plan stands once, in the queue or in one lane's list, and no other block stands there
 pub record HasPlaces (s : PlainSender) : Type 0 where
-  pub distinct : AreDistinct (blocks_of s)
-  pub shared : AreShared (blocks_of s) (waiting_blocks s) (lanes_claims s)
+  pub distinct : AreDistinct (planned_now (blocks_of s) s.history)
+  pub shared : AreShared (planned_now (blocks_of s) s.history) (waiting_blocks s) (lanes_claims s)
 
 -- the least block that waits
 abbrev pub least_queued : PlainSender → Option Block
@@ -135,6 +142,7 @@ settings_of s l conn ask =
 abbrev pub size_of_tree : PlainSender → Frame
 size_of_tree s = frames.Size (length s.manifest) (sum_by size_of s.manifest)
 
+-- what is told of a block of this file
 abbrev pub header_by : Option Entry → Block → Header
 header_by None b = record { path = []; size = 0; stamp = 0; offset = b.offset; length = b.length }
 header_by (Some entry) b =
@@ -154,9 +162,11 @@ noted s es = record s { history = s.history ++ es }
 abbrev pub is_done_with : PlainSender → ℕ → Bool
 is_done_with s l = (past_at s l).is_acked || is_closed s l
 
+-- the lane has ended or is closed
 abbrev pub is_out : PlainSender → ℕ → Bool
 is_out s l = is_ended (state_at s l) || is_closed s l
 
+-- it holds of each lane
 abbrev pub every_lane : PlainSender → (PlainSender → ℕ → Bool) → Bool
 every_lane s f = every (length s.lanes) (f s)
 
@@ -165,6 +175,7 @@ every_lane s f = every (length s.lanes) (f s)
 abbrev pub answer_of : PlainSender → EndAnswer
 answer_of s = judged s.answer ((end_of s.history).has_finish && every_lane s is_done_with) (every_lane s is_out)
 
+-- the answer follows from the lanes again
 abbrev pub settled : PlainSender → PlainSender
 settled s = record s { answer = answer_of s }
 

@@ -71,6 +71,13 @@ shown rows.Finished = Finished
 shown rows.Answered = Answered
 shown rows.AbortWritten = AbortWritten
 
+-- a lane reads in this state
+abbrev pub is_reading : SendState → Bool
+is_reading states.ReadLocalCheckpoint = true
+is_reading states.ReadFileChunks = true
+is_reading states.ReadReceiverCmd = true
+is_reading _ = false
+
 -- the place of a state in its list, from 0
 abbrev pub place_of : SendState → ℕ
 place_of states.Connect = 0
@@ -131,7 +138,8 @@ is_mute_at states.SendAbort = true
 is_mute_at states.Ended = true
 is_mute_at _ = false
 
--- the row that fits
+-- the row that fits. A later version of the wire, whose receiver also tells how much of a block has landed,
+-- gets its own frames here: the version of the connection becomes the first argument then.
 abbrev pub row_of : SendState → SendIn → Row
 row_of states.Ended _ = Over
 row_of state inputs.Starved = Starved (is_mute_at state)
@@ -169,6 +177,7 @@ is_mute Dropped = true
 is_mute AbortWritten = true
 is_mute _ = false
 
+-- the row of an input that doesn't belong to the state
 abbrev pub is_stray : Row → Bool
 is_stray Stray = true
 is_stray _ = false

@@ -4,6 +4,7 @@ use Rattle.std.specs.Prelude.{◌≡◌, refl, ◌⊎◌, ℕ, ◌<◌, ◌≤�
 use Rattle.std.specs.Option.{option_map}
 use Rattle.wdt_units.specs.Have.{HaveFile}
 use Rattle.wdt_units.specs.declared.blocks.Block.{Block}
+use Rattle.wdt_units.specs.declared.limits.TheConstants.{MAX_CONNECTIONS, MAX_TRIES}
 use Rattle.wdt_codec.specs.Chunks.{FitsChunks}
 use Rattle.wdt_codec.specs.Frames.{Fits}
 use Rattle.wdt_tree.specs.declared.entry.Entry.{Entry}
@@ -22,7 +23,7 @@ use Rattle.wdt_sender_fsm.specs.PlainSender.{PlainSender, lane_at, state_at, pas
 use Rattle.wdt_sender_fsm.specs.Rules.{is_failure, code_of}
 use Rattle.wdt_sender_fsm.specs.SenderHistory.{LanePast, EndPast, end_of}
 
--- ---- a lane of an end that hasn't failed
+-- ---- a lane that isn't closed
 
 -- it was neither given up nor acknowledged, and has a connection or none
 pub record GoesOn (past : LanePast) (is_up : Bool) : Type 0 where
@@ -33,8 +34,8 @@ pub record GoesOn (past : LanePast) (is_up : Bool) : Type 0 where
 -- it dials: it may have a further connection, and a further try may fail
 pub record Dials (past : LanePast) : Type 0 where
   pub goes_on : GoesOn past false
-  pub connections : past.connections < 8
-  pub failed_tries : past.failed_tries < 8
+  pub connections : past.connections < MAX_CONNECTIONS
+  pub failed_tries : past.failed_tries < MAX_TRIES
 
 -- it has said what the sender is and wasn't told its count; where it didn't ask what the destination
 -- has, that is known
@@ -63,29 +64,29 @@ pub record Answers (past : LanePast) (end : EndPast) : Type 0 where
   pub finish : past.has_finish ≡ true
   pub end_finish : end.has_finish ≡ true
 
--- how a lane that isn't closed stands in each state: by whether it asked on its connection what the
--- destination has, by its past, and by the end's
-abbrev pub Fares : SendState → Bool → LanePast → EndPast → Type 0
-Fares states.Connect ask past end = Dials past
-Fares states.SendSettings ask past end = Asks ask past end
-Fares states.ReadLocalCheckpoint ask past end = Asks ask past end
-Fares states.ReadFileChunks ask past end = Learns past
-Fares states.SendSize ask past end = Sends past end false
-Fares states.SendBlocks ask past end = Sends past end true
-Fares states.SendDone ask past end = Sends past end false
-Fares states.ReadReceiverCmd ask past end = Sends past end false
-Fares states.AnswerDone ask past end = Answers past end
-Fares states.SendAbort ask past end = ⊥
-Fares states.Ended ask past end = (past.has_quit ≡ true) ⊎ (past.is_acked ≡ true)
+-- it has a connection, and writes that the end has failed
+pub record Warns (past : LanePast) (has_failed : Bool) : Type 0 where
+  pub goes_on : GoesOn past true
+  pub failed : has_failed ≡ true
 
+-- how a lane that isn't closed stands in each state: by whether the end has failed, whether the lane asked
+-- on its connection what the destination has, its past, and the end's
+abbrev pub Fares : Bool → SendState → Bool → LanePast → EndPast → Type 0
+Fares failed states.Connect ask past end = Dials past
+Fares failed states.SendSettings ask past end = Asks ask past end
+Fares failed states.ReadLocalCheckpoint ask past end = Asks ask past end
+Fares failed states.ReadFileChunks ask past end = Learns past
+Fares failed states.SendSize ask past end = Sends past end false
+Fares failed states.SendBlocks ask past end = Sends past end true
+Fares failed states.SendDone ask past end = Sends past end false
+Fares failed states.ReadReceiverCmd ask past end = Sends past end false
+Fares failed states.AnswerDone ask past end = Answers past end
+Fares failed states.SendAbort ask past end = Warns past failed
+Fares failed states.Ended ask past end = (failed ≡ true) ⊎ ((past.has_quit ≡ true) ⊎ (past.is_acked ≡ true))
+
+-- a lane stands as its state says
 abbrev pub FaresAt : PlainSender → ℕ → Type 0
-FaresAt s l = Fares (state_at s l) (lane_at s l).ask (past_at s l) (end_of s.history)
-
--- an end that hasn't failed: no lane read that the receiver has failed or what no receiver may say, and
--- each lane that isn't closed stands as its state says
-pub record IsSoundEnd (s : PlainSender) : Type 0 where
-  pub faultless : (end_of s.history).has_fault ≡ false
-  pub lanes : (l : ℕ) → l < length s.lanes → (past_at s l).claims.closed ≡ None → FaresAt s l
+FaresAt s l = Fares (is_failure s.answer) (state_at s l) (lane_at s l).ask (past_at s l) (end_of s.history)
 
 -- ---- the plan
 
@@ -113,10 +114,12 @@ failure_after s (Abort l code) = Some (answers.Aborted code)
 failure_after s (Peer l kind) = Some (answers.Peer kind)
 failure_after s _ = s
 
+-- the same behind some entries
 abbrev pub failure_from : Option EndAnswer → List SendEvent → Option EndAnswer
 failure_from s [] = s
 failure_from s (e ∷ es) = failure_from (failure_after s e) es
 
+-- what a history says of a failure, read last
 unfoldable pub failure_in : List SendEvent → Option EndAnswer
 failure_in h = failure_from None h
 
@@ -124,10 +127,12 @@ failure_from-more : (s : Option EndAnswer) (h : List SendEvent) (e : SendEvent) 
 failure_from-more s [] e = refl
 failure_from-more s (d ∷ h) e = failure_from-more (failure_after s d) h e
 
+-- a history that grows by an entry
 pub failure_in-more : (h : List SendEvent) (e : SendEvent) → failure_in (h ++ e ∷ []) ≡ failure_after (failure_in h) e
 unfolding failure_in
 failure_in-more h e = failure_from-more None h e
 
+-- nothing has happened
 pub failure_in-none : failure_in [] ≡ None
 unfolding failure_in
 failure_in-none = refl
@@ -153,17 +158,23 @@ pub record IsAnswered (s : PlainSender) : Type 0 where
 abbrev pub is_over : LanePast → Bool
 is_over past = past.has_quit || past.is_acked
 
--- such a lane, where it isn't closed, has ended
+-- such a lane has ended, closed or not
 abbrev pub AllEnded : PlainSender → Type 0
-AllEnded s = (l : ℕ) → l < length s.lanes → (past_at s l).claims.closed ≡ None → is_over (past_at s l) ≡ true → state_at s l ≡ states.Ended
+AllEnded s = (l : ℕ) → l < length s.lanes → is_over (past_at s l) ≡ true → state_at s l ≡ states.Ended
 
--- a plain sender as steps leave it
+-- each lane that isn't closed stands as its state says
+abbrev pub AllFare : PlainSender → Type 0
+AllFare s = (l : ℕ) → l < length s.lanes → (past_at s l).claims.closed ≡ None → FaresAt s l
+
+-- a plain sender as steps leave it. On an end that hasn't failed no lane read that the receiver has, or
+-- what no receiver may say.
 pub record IsSender (s : PlainSender) : Type 0 where
   pub legal : IsLegal (length s.lanes) (blocks_of s) s.history
   pub plan : IsPlanned s
   pub answer : IsAnswered s
+  pub lanes : AllFare s
   pub ended : AllEnded s
-  pub sound : is_failure s.answer ≡ false → IsSoundEnd s
+  pub faultless : is_failure s.answer ≡ false → (end_of s.history).has_fault ≡ false
 
 -- what is read is in the grammar's ranges
 abbrev pub FitsIn : SendIn → Type 0

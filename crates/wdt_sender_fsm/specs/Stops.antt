@@ -11,6 +11,7 @@ use Rattle.wdt_sender_fsm.specs.PlainSender.{PlainSender, past_at, is_closed}
 use Rattle.wdt_sender_fsm.specs.Rows.{is_allowed}
 use Rattle.wdt_sender_fsm.specs.Sender.{is_over}
 
+-- the act is Stop
 abbrev pub is_stop : SendAct → Bool
 is_stop acts.Stop = true
 is_stop _ = false

@@ -2,6 +2,7 @@
 use Rattle.std.specs.Prelude.{ℕ, ◌+◌, ◌==◌, ◌||◌, nat_le, not, Bool, true, false, if◌then◌else◌, List, [], ◌∷◌, length, is_some, map, Option, Some, None}
 use Rattle.wdt_units.specs.Have.{HaveFile}
 use Rattle.wdt_units.specs.declared.blocks.Block.{Block}
+use Rattle.wdt_units.specs.declared.limits.TheConstants.{MAX_CONNECTIONS, MAX_TRIES}
 use Rattle.wdt_units.specs.declared.numbers.Conn.{Conn}
 use Rattle.wdt_units.specs.declared.numbers.Lane.{Lane}
 use Rattle.wdt_codec.specs.declared.frames.Frame.{Frame}
@@ -60,6 +61,7 @@ faults s l row kind = fails_with (noted s (events.Peer l kind ∷ [])) l row (an
 abbrev pub writes : PlainSender → Frame → Step
 writes s frame = (acts.Write frame, s)
 
+-- the lane reads a frame
 abbrev pub reads : PlainSender → Step
 reads s = (acts.Read, s)
 
@@ -71,8 +73,9 @@ next_conn s l = record { 0 = (past_at s l.0).connections + 1 }
 
 -- the lane had as many connections as it may have, or as many tries that failed
 abbrev pub is_used_up : LanePast → Bool
-is_used_up past = nat_le 8 past.connections || nat_le 8 past.failed_tries
+is_used_up past = nat_le MAX_CONNECTIONS past.connections || nat_le MAX_TRIES past.failed_tries
 
+-- it is given up where its counts are used up, and dials else
 abbrev pub redial_by : PlainSender → Lane → Bool → Step
 redial_by s l true = (acts.Stop, goes (noted s (events.Quit l ∷ [])) l states.Ended)
 redial_by s l false = (acts.Dial (next_conn s l), goes s l states.Connect)
@@ -87,11 +90,13 @@ abbrev pub introduces_with : PlainSender → Lane → Conn → Bool → Step
 introduces_with s l conn ask =
     writes (with_lane (noted s (events.Linked l conn ∷ [])) l record { state = states.SendSettings; ask = ask }) (settings_of s l conn ask)
 
+-- with its next connection
 abbrev pub introduces : PlainSender → Lane → Step
 introduces s l = introduces_with s l (next_conn s l) (not (is_some s.have))
 
 -- ---- the receiver tells what it has
 
+-- what is sent in all is written
 abbrev pub writes_size : PlainSender → Lane → Step
 writes_size s l = writes (goes s l states.SendSize) (size_of_tree s)
 
@@ -100,6 +105,7 @@ abbrev pub greeted_by : PlainSender → Lane → Bool → Step
 greeted_by s l true = reads (goes s l states.ReadFileChunks)
 greeted_by s l false = writes_size s l
 
+-- by what is wrong with the count, if anything is
 abbrev pub greeted_with : PlainSender → Lane → Mark → Option PeerKind → Step
 greeted_with s l mark (Some kind) = faults s l (Greeted mark) kind
 greeted_with s l mark None = greeted_by (noted s (events.Greet l mark.count ∷ [])) l (lane_at s l.0).ask
@@ -109,6 +115,7 @@ abbrev pub greeted_for : PlainSender → Lane → Mark → Bool → Step
 greeted_for s l mark true = greeted_with s l mark (count_fault (past_at s l.0).claims mark.count)
 greeted_for s l mark false = faults s l (Greeted mark) (unexpected_in states.ReadLocalCheckpoint (frames.Greeting mark))
 
+-- a Greeting was read
 abbrev pub greeted : PlainSender → Lane → Mark → Step
 greeted s l mark = greeted_for s l mark (mark.lane.0 == l.0)
 
@@ -126,19 +133,23 @@ abbrev pub planned_by : PlainSender → Lane → List HaveFile → Option Refuse
 planned_by s l have (Some kind) = fails_with s l (Listed have) (answers.Refused kind)
 planned_by s l have None = writes_size (noted (with_plan s have) (events.Chunks l ∷ [])) l
 
+-- by what was known of the destination before
 abbrev pub listed_after : PlainSender → Lane → List HaveFile → Option (List HaveFile) → Step
 listed_after s l have (Some first) = listed_again s l have (different_at first have)
 listed_after s l have None = planned_by s l have (refusal s.manifest have s.block)
 
+-- by the place out of order, if there is one
 abbrev pub listed_in : PlainSender → Lane → List HaveFile → Option ℕ → Step
 listed_in s l have (Some at) = faults s l (Listed have) (peers.BadChunks at)
 listed_in s l have None = listed_after s l have s.have
 
+-- a Chunks was read
 abbrev pub listed : PlainSender → Lane → List HaveFile → Step
 listed s l have = listed_in s l have (unordered_at have)
 
 -- ---- blocks
 
+-- by the block that is to be taken, if one waits
 abbrev pub next_by : PlainSender → Lane → Option Block → Step
 next_by s l None = writes (goes s l states.SendDone) frames.Done
 next_by s l (Some b) = (acts.SendBlock (header_of s b), goes (noted s (events.Claim l b ∷ [])) l states.SendBlocks)
@@ -149,12 +160,15 @@ next s l = next_by s l (least_queued s)
 
 -- ---- lanes that the receiver has closed
 
+-- the entry of a mark
 abbrev pub global : Lane → Mark → SendEvent
 global l mark = events.Global l mark.lane mark.count
 
+-- the entries of some marks
 abbrev pub globals : Lane → List Mark → List SendEvent
 globals l marks = map (global l) marks
 
+-- by what is wrong with the marks, if anything is
 abbrev pub marked_with : PlainSender → Lane → List Mark → Option PeerKind → Step
 marked_with s l marks (Some kind) = faults s l (Marked marks) kind
 marked_with s l marks None = next (noted s (globals l marks)) l
@@ -164,6 +178,7 @@ abbrev pub marked_for : PlainSender → Lane → List Mark → Bool → Step
 marked_for s l marks true = faults s l (Marked marks) (unexpected_in states.ReadReceiverCmd (frames.ErrMarks marks))
 marked_for s l marks false = marked_with s l marks (marks_fault s.history marks)
 
+-- an ErrMarks was read
 abbrev pub marked : PlainSender → Lane → List Mark → Step
 marked s l marks = marked_for s l marks (has_stranger (length s.lanes) l.0 marks)
 
@@ -175,6 +190,7 @@ finished_with s l row count =
     if count == 0 then writes (goes (noted s (events.Finish l ∷ [])) l states.AnswerDone) frames.Done
     else faults s l row (peers.EarlyDone count)
 
+-- a Done was read
 abbrev pub finished : PlainSender → Lane → Row → Step
 finished s l row = finished_with s l row (unfinished_blocks s)
 
@@ -185,6 +201,7 @@ finished_at_once s l false = faults s l DoneAtOnce (unexpected_in states.ReadLoc
 
 -- ---- the table
 
+-- what each row comes to
 abbrev pub turn_row : PlainSender → Lane → Row → Step
 turn_row s l Over = rests s
 turn_row s l (Starved mute) = rests s
@@ -217,6 +234,7 @@ abbrev pub after_starving : PlainSender → Row → PlainSender
 after_starving s (Starved mute) = failed s (starved s.answer)
 after_starving s _ = s
 
+-- the row of a lane that has ended
 abbrev pub is_over : Row → Bool
 is_over Over = true
 is_over _ = false
@@ -227,8 +245,10 @@ abbrev pub ruled : PlainSender → Lane → Row → Step
 ruled s l row =
     by_rules (is_over row) (is_closed s l.0) (is_failure s.answer) (rests s) (leaves s l) (gives_up s l row) (turn_row s l row)
 
+-- a step by its row
 abbrev pub turned : PlainSender → Lane → Row → Step
 turned s l row = ruled (after_starving s row) l row
 
+-- the step of a lane with an input
 unfoldable pub send_turn : PlainSender → Lane → SendIn → Step
 send_turn s l input = turned s l (row_of (state_at s l.0) input)

@@ -16,15 +16,19 @@ use Rattle.wdt_sender_fsm.specs.declared.states.SendState.TheVariants as states
 use Rattle.wdt_sender_fsm.specs.PlainSender.{PlainSender, opened}
 use Rattle.wdt_sender_fsm.specs.Turn.{Step}
 
+-- lane l
 abbrev pub lane : ℕ → Lane
 lane l = record { 0 = l }
 
+-- connection c
 abbrev pub conn : ℕ → Conn
 conn c = record { 0 = c }
 
+-- so many blocks of lane l
 abbrev pub mark : ℕ → ℕ → Mark
 mark l n = record { lane = lane l; count = n }
 
+-- a lane in a state, that didn't ask
 abbrev pub stands : SendState → SendLane
 stands state = record { state = state; ask = true }
 
@@ -85,6 +89,7 @@ done_early = (
 abbrev pub two_unlisted : PlainSender
 two_unlisted = record two_lanes { have = None; planned = None; history = events.Linked (lane 1) (conn 1) ∷ [] }
 
+-- and the step that it comes to
 abbrev pub done_before_a_plan : Step
 done_before_a_plan = (
   acts.Write (frames.Abort 5),

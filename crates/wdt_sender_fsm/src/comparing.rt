@@ -5,7 +5,7 @@ ghost use Rattle.wdt_ranges.specs.Spans.{plain_span};
 ghost use Rattle.wdt_sender_fsm.specs.Chunks.{are_same_spans, different_at, is_same_file, is_same_span, unordered_at};
 ghost use Rattle.wdt_units.specs.Tree.{is_before};
 
-use wdt_ranges::{FileHave, Span};
+use wdt_ranges::{FileHave, Span, Spans};
 use wdt_units::Name;
 
 /// The least place, counted from 0, whose path doesn't come behind the one before it.
@@ -55,18 +55,16 @@ fn is_same_file(first: &FileHave, later: &FileHave) -> bool
         && are_same_spans(first.spans.spans(), later.spans.spans())
 }
 
-fn are_same_spans(first: &[Span], later: &[Span]) -> bool
-    ensures { result ≡ are_same_spans (map plain_span first.now) (map plain_span later.now) }
+fn are_same_spans(first: Spans<'_>, mut later: Spans<'_>) -> bool
+    ensures { result ≡ are_same_spans first.entry later.entry }
 {
-    if first.len() != later.len() {
-        return false;
-    }
-    for at in 0..first.len() {
-        if !is_same_span(first[at], later[at]) {
-            return false;
+    for span in first {
+        match later.next() {
+            Some(other) if is_same_span(span, other) => {}
+            _ => return false,
         }
     }
-    true
+    later.next().is_none()
 }
 
 fn is_same_span(first: Span, later: Span) -> bool

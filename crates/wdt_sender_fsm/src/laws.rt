@@ -2,11 +2,11 @@
 //! are the laws.
 ghost use Rattle.std.specs.Prelude.{◌≡◌, ℕ, ◌+◌, ◌<◌, Bool, ◌↔◌, ◌⊎◌, true, false, List, [], ◌∷◌, ◌++◌, length, map, replicate, slice_index_or, slice_set, None, Some};
 ghost use Rattle.wdt_units.specs.Have.{HaveFile};
-ghost use Rattle.wdt_units.specs.LaneWords.{no_claims, claimed, cut_to, finished, sent};
+ghost use Rattle.wdt_claims.specs.LaneWords.{no_claims, claimed, cut_to, finished, sent};
 ghost use Rattle.wdt_units.specs.declared.blocks.Block.{Block};
 ghost use Rattle.wdt_units.specs.declared.numbers.Lane.{Lane};
-ghost use Rattle.wdt_units.specs.Places.{is_among, place_of};
-ghost use Rattle.wdt_units.specs.declared.place.Place.TheVariants.{Confirmed};
+ghost use Rattle.wdt_claims.specs.Places.{is_among, place_of};
+ghost use Rattle.wdt_claims.specs.declared.place.Place.TheVariants.{Confirmed};
 ghost use Rattle.wdt_codec.specs.declared.frames.Frame.{Frame};
 ghost use Rattle.wdt_codec.specs.declared.frames.Frame.TheVariants as frames;
 ghost use Rattle.wdt_ranges.specs.Files.{is_in_order};
@@ -17,13 +17,13 @@ ghost use Rattle.wdt_sender_fsm.specs.declared.inputs.SendIn.{SendIn};
 ghost use Rattle.wdt_sender_fsm.specs.declared.inputs.SendIn.TheVariants.{Got};
 ghost use Rattle.wdt_sender_fsm.specs.declared.states.SendState.{SendState};
 ghost use Rattle.wdt_sender_fsm.specs.Chunks.{different_at, unordered_at};
-ghost use Rattle.wdt_sender_fsm.specs.Legal.{IsAllowed, IsLegal, IsSound};
+ghost use Rattle.wdt_sender_fsm.specs.Legal.{HasLanded, IsAllowed, IsLegal, IsSound};
 ghost use Rattle.wdt_sender_fsm.specs.Phases.{Phase, Message, Agree, FitsLane, StandsIn, down, up, phase_by, phase_heard, phase_holding, is_named};
-ghost use Rattle.wdt_sender_fsm.specs.Places.{AreShared, changes_claims, claims_of, least_of, queued};
+ghost use Rattle.wdt_sender_fsm.specs.Places.{AreShared, changes_claims, claims_of, least_of, planned_now, queued};
 ghost use Rattle.wdt_sender_fsm.specs.PlainSender.{PlainSender, is_closed, lane_at};
 ghost use Rattle.wdt_sender_fsm.specs.Rows.{row_of};
 ghost use Rattle.wdt_sender_fsm.specs.Rules.{is_failure};
-ghost use Rattle.wdt_sender_fsm.specs.SenderHistory.{close_by, end_of, past_of};
+ghost use Rattle.wdt_sender_fsm.specs.SenderHistory.{close_by, end_from, end_of, past_from, past_of};
 ghost use Rattle.wdt_sender_fsm.specs.Turn.{send_turn};
 ghost use Rattle.wdt_sender_fsm.specs.Worked.{lane, mark, one_lane, wrongly_greeted, rightly_greeted, two_lanes, done_early, two_unlisted, done_before_a_plan, half_lost, taken_over};
 
@@ -38,14 +38,17 @@ pub fn worked_steps()
 {}
 
 /// What a legal history says: of each lane; that a closed lane stays closed; that a block which has
-/// surely landed stays so, and that each of the plan has once a lane read the receiver's last word; and
+/// surely landed stays so, and that each of the plan has once a lane read the receiver's last word, when
+/// nothing waits or is being written either; and
 /// that each block of the plan stands once, in the queue or in one lane's list.
 pub fn histories_are_sound()
     ensures sound { (n : ℕ) (planned : List Block) (h : List SendEvent) (l : ℕ) → IsLegal n planned h → IsSound (past_of h l) }
+    ensures landed { (n : ℕ) (planned : List Block) (h : List SendEvent) → IsLegal n planned h → (end_of h).has_finish ≡ true → HasLanded n planned h }
+    ensures last_word { (n : ℕ) (planned : List Block) (h : List SendEvent) (l : ℕ) → IsLegal n planned h → (past_of h l).has_finish ≡ true → (end_of h).has_finish ≡ true }
     ensures closed { (h : List SendEvent) (e : SendEvent) (l m : ℕ) → (past_of h l).claims.closed ≡ Some m → (past_of (h ++ e ∷ []) l).claims.closed ≡ Some m }
     ensures confirmed { (n : ℕ) (planned : List Block) (h : List SendEvent) (e : SendEvent) (b : Block) → IsAllowed n planned h e → place_of b (claims_of n h) ≡ Confirmed → place_of b (claims_of n (h ++ e ∷ [])) ≡ Confirmed }
     ensures finished { (n : ℕ) (planned : List Block) (h : List SendEvent) (b : Block) → IsLegal n planned h → (end_of h).has_finish ≡ true → is_among planned b ≡ true → place_of b (claims_of n h) ≡ Confirmed }
-    ensures placed { (n : ℕ) (planned : List Block) (h : List SendEvent) → is_rising planned ≡ true → IsLegal n planned h → AreShared planned (queued n planned h) (claims_of n h) }
+    ensures placed { (n : ℕ) (planned : List Block) (h : List SendEvent) → is_rising planned ≡ true → IsLegal n planned h → AreShared (planned_now planned h) (queued n planned h) (claims_of n h) }
 {}
 
 /// The two ends of a connection speak in turn: in no phase both have the word, and where they agree,
@@ -65,6 +68,12 @@ pub fn a_sender_speaks_in_turn()
     ensures writes { (s : PlainSender) (l : Lane) (input : SendIn) → l.0 < length s.lanes → FitsLane (lane_at (send_turn s l input).1 l.0) (send_turn s l input).0 }
     ensures stands { (s : PlainSender) (l : Lane) (input : SendIn) (p : Phase) → l.0 < length s.lanes → is_closed s l.0 ≡ false → is_failure s.answer ≡ false → phase_holding (lane_at s l.0) input ≡ Some p → StandsIn p l (send_turn s l input).1 }
     ensures hears { (state : SendState) (ask acked : Bool) (frame : Frame) (q : Phase) → phase_heard frame (phase_by ask acked state) ≡ Some q → is_named (row_of state (Got frame)) ≡ true }
+{}
+
+/// What further entries make of the pasts that a history says.
+pub fn pasts_follow_the_history()
+    ensures lane { (h es : List SendEvent) (l : ℕ) → past_of (h ++ es) l ≡ past_from l (past_of h l) es }
+    ensures end { (h es : List SendEvent) → end_of (h ++ es) ≡ end_from (end_of h) es }
 {}
 
 /// What all lanes have claimed, lane for lane, and what each kind of entry makes of it.
@@ -87,8 +96,10 @@ pub fn file_lists_are_compared()
     ensures same { (first later : List HaveFile) → (different_at first later ≡ None) ↔ (first ≡ later) }
 {}
 
-/// The queue rises as the plan does, so the block that a lane takes is the least that waits.
+/// The queue rises as the plan does, so the block that a lane takes is the least that waits; and it takes
+/// the head of the queue away.
 pub fn a_lane_takes_the_least_block()
     ensures rising { (n : ℕ) (planned : List Block) (h : List SendEvent) → is_rising planned ≡ true → is_rising (queued n planned h) ≡ true }
+    ensures head { (n : ℕ) (planned : List Block) (h : List SendEvent) (l : Lane) (b : Block) (bs : List Block) → is_rising planned ≡ true → l.0 < n → queued n planned h ≡ b ∷ bs → queued n planned (h ++ events.Claim l b ∷ []) ≡ bs }
     ensures least { (n : ℕ) (planned : List Block) (h : List SendEvent) (b c : Block) → is_rising planned ≡ true → least_of (queued n planned h) ≡ Some b → is_among (queued n planned h) c ≡ true → (c ≡ b) ⊎ (is_earlier b c ≡ true) }
 {}

@@ -27,15 +27,17 @@ pub use comparing::{different_at, unordered_at};
 pub use events::SendEvent;
 pub use inputs::SendIn;
 pub use keeping::{
-    answers_have_their_causes, blocks_keep_their_places, senders_stay_senders,
-    steps_answer_rightly, steps_touch_their_lane, the_plan_is_the_rest,
+    acts_follow_from_lanes, answers_have_their_causes, blocks_are_apart, blocks_keep_their_places,
+    senders_stay_senders, steps_answer_rightly, steps_go_by_the_rules, steps_have_outcomes,
+    steps_touch_their_lane, the_plan_is_the_rest,
 };
 pub use laws::{
     a_lane_takes_the_least_block, a_sender_speaks_in_turn, claims_follow_the_history,
-    ends_speak_in_turn, file_lists_are_compared, histories_are_sound, worked_steps,
+    ends_speak_in_turn, file_lists_are_compared, histories_are_sound, pasts_follow_the_history,
+    worked_steps,
 };
 pub use peers::PeerKind;
-pub use rows::{SendRow, allowed, row};
+pub use rows::{SendRow, allowed, command_of, row};
 pub use states::{SendLane, SendState};
 
 #[cfg(test)]

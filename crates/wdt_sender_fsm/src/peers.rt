@@ -45,8 +45,8 @@ pub enum PeerKind {
     ChunksDiffer {
         at: u32,
     },
-    /// What is sent in all was told otherwise before.
-    #[error("{files} files with {bytes} bytes where {told_files} with {told_bytes} were told before")]
+    /// What is sent in all was told otherwise before: the first totals, and those that are told now.
+    #[error("{told_files} files with {told_bytes} bytes where {files} with {bytes} were told before")]
     SizesDiffer {
         files: u32,
         bytes: u64,
@@ -58,7 +58,7 @@ pub enum PeerKind {
     Overlap {
         offset: u64,
     },
-    /// The file has another size or stamp than was told before.
+    /// The file has another size or stamp than is known: those that are known, and those that are told.
     #[error("a file of size {told_size} and stamp {told_stamp} where {size} and {stamp} are known")]
     SizeDiffers {
         size: u64,

@@ -176,8 +176,8 @@ fn unexpected<'a>(state: SendState, frame: &'a Frame) -> SendRow<'a>
     }
 }
 
-// The first byte of a frame's spelling.
-fn command_of(frame: &Frame) -> u8
+/// The first byte of a frame's spelling.
+pub fn command_of(frame: &Frame) -> u8
     ensures { result ≡ command_of frame.now }
 {
     match frame {

@@ -1,5 +1,5 @@
 -- Files have one order, and `in_order` finds it.
-use Rattle.std.proofs.Common.{◌≡◌, ℕ, Bool, true, false, List, [], ◌∷◌, ◌&&◌, Option, Some, None, refl, sym, ap, ◌∙◌, if◌then◌else◌}
+use Rattle.std.proofs.Common.{◌≡◌, Bool, true, false, List, [], ◌∷◌, Option, Some, None, refl, sym, ap, ◌∙◌, if◌then◌else◌}
 use Rattle.std.specs.Prelude.{IsTrue}
 use Rattle.std.specs.List.{AllByRecursion, IsDistinct, list_all, list_any}
 use Rattle.std.specs.List.Sorted.{IsPermutation}
@@ -14,39 +14,27 @@ use Rattle.std.proofs.lemmas.List.Sorted.{IsPermutation-sym, IsPermutation-trans
 use Rattle.std.proofs.lemmas.Map.Keys.{IsDistinct-IsPermutation}
 use Rattle.std.proofs.lemmas.Map.Text.{is_eq-slice_cmp}
 use Rattle.wdt_units.specs.Tree.{File, is_below, is_rising, is_tree}
-use Rattle.wdt_tree.proofs.Files.{and_split, rising}
-use Rattle.wdt_tree.proofs.OneOrder.{rises, before-one_way, one-order as rising_order}
+use Rattle.std.proofs.lemmas.Bool.{and_parts}
+use Rattle.wdt_units.proofs.Shared.{all_before, before_both, before-one_way, less, rising_once}
+use Rattle.wdt_tree.proofs.Shared.{rising}
 use Rattle.wdt_source.specs.Laws.{same_files}
 use Rattle.wdt_source.specs.Order.{put, in_order, tree_of}
 use Rattle.wdt_source.specs.Place.{has_path}
 
 -- ---- a rising list is one
 
-as_rises : (xs : List File) → rises is_below xs ≡ is_rising xs
-as_rises [] = refl
-as_rises (x ∷ xs) = ap (λ b. list_all (is_below x) xs && b) (as_rises xs)
-
 one-order : (xs ys : List File) → is_rising xs ≡ true → is_rising ys ≡ true → IsPermutation xs ys → xs ≡ ys
-one-order xs ys ux uy p = rising_order is_below (λ a b. before-one_way a.path b.path) xs ys (as_rises xs ∙ ux) (as_rises ys ∙ uy) p
+one-order xs ys ux uy p = rising_once is_below (λ a b. before-one_way a.path b.path) xs ys ux uy p
 
 -- ---- files whose paths differ rise in order
 
-less : (o : Ordering) → is_lt o ≡ true → o ≡ Less
-less Less h = refl
-less Equal h = cc
-less Greater h = cc
-
 below_all : (a b : File) (xs : List File) → is_below a b ≡ true → list_all (is_below b) xs ≡ true → list_all (is_below a) xs ≡ true
-below_all a b [] h all = refl
-below_all a b (x ∷ xs) h all =
-    let parts : (is_below b x ≡ true) × (list_all (is_below b) xs ≡ true) = and_split (is_below b x) (list_all (is_below b) xs) all in
-    let low : slice_cmp nat_cmp a.path x.path ≡ Less = nat_list_cmp_total.trans a.path b.path x.path (less (slice_cmp nat_cmp a.path b.path) h) (less (slice_cmp nat_cmp b.path x.path) parts.0) in
-    and_from (is_below a x) (list_all (is_below a) xs) (ap is_lt low) (below_all a b xs h parts.1)
+below_all = all_before is_below (λ a b c. before_both a.path b.path c.path)
 
 put_all : (p : File → Bool) (file : File) (xs : List File) → p file ≡ true → list_all p xs ≡ true → list_all p (put file xs) ≡ true
 put_all p file [] here all = and_from (p file) true here refl
 put_all p file (x ∷ xs) here all =
-    let parts : (p x ≡ true) × (list_all p xs ≡ true) = and_split (p x) (list_all p xs) all in
+    let parts : (p x ≡ true) × (list_all p xs ≡ true) = and_parts (p x) (list_all p xs) all in
     elim (is_below x file) as (λ b. list_all p (if b then x ∷ put file xs else file ∷ x ∷ xs) ≡ true) [
       | true ↦ and_from (p x) (list_all p (put file xs)) parts.0 (put_all p file xs here parts.1)
       | false ↦ and_from (p file) (list_all p (x ∷ xs)) here all
@@ -60,18 +48,18 @@ below_other Greater p e h k = ap is_lt e
 put_step : (file x : File) (xs : List File) → is_rising (x ∷ xs) ≡ true → has_path file.path x ≡ false → is_rising (put file xs) ≡ true
     → (b : Bool) → is_below x file ≡ b → is_rising (if b then x ∷ put file xs else file ∷ x ∷ xs) ≡ true
 put_step file x xs up other rest true e =
-    and_from (list_all (is_below x) (put file xs)) (is_rising (put file xs)) (put_all (is_below x) file xs e ((and_split (list_all (is_below x) xs) (is_rising xs) up).0)) rest
+    and_from (list_all (is_below x) (put file xs)) (is_rising (put file xs)) (put_all (is_below x) file xs e ((and_parts (list_all (is_below x) xs) (is_rising xs) up).0)) rest
 put_step file x xs up other rest false e =
     let low : is_below file x ≡ true = below_other (slice_cmp nat_cmp x.path file.path) (slice_cmp nat_cmp file.path x.path) (nat_list_cmp_total.antisymm file.path x.path) e (is_eq-slice_cmp x.path file.path ∙ other) in
     and_from (list_all (is_below file) (x ∷ xs)) (is_rising (x ∷ xs))
-    (and_from (is_below file x) (list_all (is_below file) xs) low (below_all file x xs low ((and_split (list_all (is_below x) xs) (is_rising xs) up).0)))
+    (and_from (is_below file x) (list_all (is_below file) xs) low (below_all file x xs low ((and_parts (list_all (is_below x) xs) (is_rising xs) up).0)))
     up
 
 put_rises : (file : File) (xs : List File) → is_rising xs ≡ true → list_any (has_path file.path) xs ≡ false → is_rising (put file xs) ≡ true
 put_rises file [] up other = refl
 put_rises file (x ∷ xs) up other =
     let parts : (has_path file.path x ≡ false) × (list_any (has_path file.path) xs ≡ false) = or_parts (has_path file.path x) (list_any (has_path file.path) xs) other in
-    put_step file x xs up parts.0 (put_rises file xs ((and_split (list_all (is_below x) xs) (is_rising xs) up).1) parts.1) (is_below x file) refl
+    put_step file x xs up parts.0 (put_rises file xs ((and_parts (list_all (is_below x) xs) (is_rising xs) up).1) parts.1) (is_below x file) refl
 
 same_path : File → File → Bool
 same_path a b = bytes_eq b.path a.path
@@ -89,7 +77,7 @@ apart : (x : File) (xs : List File) → list_all (is_below x) xs ≡ true → Al
 unfolding same_path
 apart x [] h = tt
 apart x (y ∷ ys) h =
-    let parts : (is_below x y ≡ true) × (list_all (is_below x) ys ≡ true) = and_split (is_below x y) (list_all (is_below x) ys) h in
+    let parts : (is_below x y ≡ true) × (list_all (is_below x) ys ≡ true) = and_parts (is_below x y) (list_all (is_below x) ys) h in
     let other : bytes_eq x.path y.path ≡ false = sym (is_eq-slice_cmp x.path y.path) ∙ ap is_eq (less (slice_cmp nat_cmp x.path y.path) parts.0) in
     (flips x y ∙ other, apart x ys parts.1)
 
@@ -97,7 +85,7 @@ distinct : (xs : List File) → is_rising xs ≡ true → IsDistinct same_path x
 unfolding IsDistinct
 distinct [] up = tt
 distinct (x ∷ xs) up =
-    let parts : (list_all (is_below x) xs ≡ true) × (is_rising xs ≡ true) = and_split (list_all (is_below x) xs) (is_rising xs) up in
+    let parts : (list_all (is_below x) xs ≡ true) × (is_rising xs ≡ true) = and_parts (list_all (is_below x) xs) (is_rising xs) up in
     (apart x xs parts.0, distinct xs parts.1)
 
 in_order_rises : (files : List File) → IsDistinct same_path files → is_rising (in_order files) ≡ true

@@ -13,11 +13,11 @@ use Rattle.std.proofs.lemmas.Slice.Eq.{bytes_eq-Decides}
 use Rattle.wdt_tree.specs.declared.entry.Plain.{Plain}
 use Rattle.wdt_tree.specs.Shown.{shown}
 use Rattle.wdt_units.specs.Tree.{File, is_rising, is_tree, file_of}
-use Rattle.wdt_tree.proofs.Files.{file_of-at, rising}
+use Rattle.wdt_tree.proofs.Shared.{file_of-at, rising}
 use Rattle.wdt_source.specs.Laws.{same_files}
 use Rattle.wdt_source.specs.Order.{in_order, tree_of}
 use Rattle.wdt_source.specs.Place.{has_path, is_of_path, file_at, IsPart, IsPlace}
-use Rattle.wdt_source.specs.Told.{HasSlip, IsRead, is_within, is_within_file}
+use Rattle.wdt_source.specs.Told.{IsRead, is_within, is_within_file, HasSlip}
 use Rattle.wdt_source.specs.declared.failure.SourceFail.{SourceFail}
 use Rattle.wdt_source.specs.declared.failure.SourceFail.TheVariants.{Failed}
 use Rattle.wdt_units.specs.Counts.{Rises}

@@ -1,8 +1,9 @@
 -- What a source in memory holds.
-use Rattle.std.specs.Prelude.{ℕ, ◌+◌, ◌-◌, ◌^◌, ◌==◌, Bool, List, map, min}
-use Rattle.std.specs.List.{list_any}
+use Rattle.std.specs.Prelude.{ℕ, List, map}
+use Rattle.wdt_units.specs.Schedule.{Schedule}
 use Rattle.wdt_units.specs.Tree.{File}
 use Rattle.wdt_tree.specs.Shown.{shown}
+use Rattle.wdt_source.specs.Tally.{schedule_of}
 use Rattle.wdt_source.specs.declared.memory.MemSource.{MemSource}
 
 -- its files, in the order in which they were handed in
@@ -11,16 +12,12 @@ files_in source = map shown source.files.items
 
 -- how often a call failed
 abbrev pub faults_in : MemSource → ℕ
-faults_in source = source.faults
+faults_in source = source.tally.faults
 
 -- how often a read wasn't within its file
 abbrev pub slips_in : MemSource → ℕ
-slips_in source = source.slips
+slips_in source = source.tally.slips
 
--- the number of the next call: from 1, and it stops at 2^32 less 1
-abbrev pub next_call : MemSource → ℕ
-next_call source = min (source.calls + 1) (2 ^ 32 - 1)
-
--- the next call is one of those that fail
-abbrev pub fails_next : MemSource → Bool
-fails_next source = list_any (λ number. number == next_call source) source.fails.items
+-- which calls fail by their numbers, and how many there were
+abbrev pub schedule_in : MemSource → Schedule
+schedule_in source = schedule_of source.tally

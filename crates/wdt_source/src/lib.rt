@@ -11,6 +11,7 @@ mod failure;
 mod laws;
 mod memory;
 mod source;
+mod tally;
 #[cfg(test)]
 mod tests;
 

@@ -10,81 +10,39 @@ ghost use Rattle.wdt_source.specs.Told.{is_within};
 
 use crate::failure::SourceFail;
 use crate::source::Source;
+use crate::tally::Tally;
 use std::alloc::Global;
 use wdt_tree::{Plain, RawEntry};
 use wdt_units::Name;
 
-/// Files in memory. Calls are numbered from 1, and those whose numbers it is given fail; both calls
-/// are numbered together. A read for bytes that its files don't have is a slip, counts a fault and
-/// fails, whether or not its number is among those.
+/// Files in memory. Calls are numbered from 1, but for those that are refused for memory, and those
+/// whose numbers it is given fail; both calls are numbered together. A read for bytes that its files
+/// don't have is a slip, counts a fault and fails, whether or not its number is among those. So does,
+/// without a slip, a listing of 2^32 files or more.
 #[derive(Debug, Drop)]
 pub struct MemSource {
     files: Vec<Plain>,
-    fails: Vec<u32>,
-    calls: u32,
-    faults: u64,
-    slips: u64,
+    tally: Tally,
     // Where the last file was found: a hint, since any place that has the path will do.
     near: usize,
-    ghost few: { vec_len files < 2 ^ 32 },
 }
 
 impl MemSource {
-    ghost use Rattle.wdt_source.specs.Memory.{files_in, faults_in, slips_in, next_call, fails_next};
+    ghost use Rattle.wdt_source.specs.Memory.{files_in, faults_in, schedule_in, slips_in};
 
-    /// A source of fewer than 2^32 files, in any order. It tells their tree where they are one, and
-    /// lists them as they are handed in.
+    /// A source of these files, in any order. It tells their tree where they are one, and lists them as
+    /// they are handed in. All counts begin at 0.
     pub fn of(files: Vec<Plain>, fails: Vec<u32>) -> MemSource
-        requires { vec_len files < 2 ^ 32 }
         ensures files { files_in result ≡ map shown files.items }
         ensures faults { faults_in result ≡ 0 }
         ensures slips { slips_in result ≡ 0 }
+        ensures schedule { schedule_in result ≡ record { fails = fails.items; calls = 0 } }
     {
         MemSource {
             files,
-            fails,
-            calls: 0,
-            faults: 0,
-            slips: 0,
+            tally: Tally::of(fails),
             near: 0,
         }
-    }
-
-    // Numbers a call, and answers whether it's one that fails.
-    fn fails_now(&mut self) -> bool
-        ensures failing { result ≡ fails_next self.old }
-        ensures calls { self.new.calls ≡ next_call self.old }
-        ensures fails { self.new.fails ≡ self.old.fails }
-        ensures files { self.new.files ≡ self.old.files }
-        ensures faults { self.new.faults ≡ self.old.faults }
-        ensures slips { self.new.slips ≡ self.old.slips }
-    {
-        self.calls = self.calls.saturating_add(1);
-        self.fails.contains(&self.calls)
-    }
-
-    fn fault(&mut self) -> SourceFail
-        ensures failed { result ≡ SourceFail.Failed }
-        ensures calls { self.new.calls ≡ self.old.calls }
-        ensures fails { self.new.fails ≡ self.old.fails }
-        ensures files { self.new.files ≡ self.old.files }
-        ensures faults { Rises self.old.faults self.new.faults }
-        ensures slips { self.new.slips ≡ self.old.slips }
-    {
-        self.faults = self.faults.saturating_add(1);
-        SourceFail::Failed
-    }
-
-    fn slip(&mut self) -> SourceFail
-        ensures failed { result ≡ SourceFail.Failed }
-        ensures calls { self.new.calls ≡ self.old.calls }
-        ensures fails { self.new.fails ≡ self.old.fails }
-        ensures files { self.new.files ≡ self.old.files }
-        ensures faults { Rises self.old.faults self.new.faults }
-        ensures slips { Rises self.old.slips self.new.slips }
-    {
-        self.slips = self.slips.saturating_add(1);
-        self.fault()
     }
 }
 
@@ -159,7 +117,7 @@ fn part_at(files: &Vec<Plain>, place: Option<usize>, offset: u64, count: usize) 
 }
 
 impl Source for MemSource {
-    ghost use Rattle.wdt_source.specs.Memory.{files_in, faults_in, slips_in};
+    ghost use Rattle.wdt_source.specs.Memory.{files_in, faults_in, schedule_in, slips_in};
 
     ghost told = { λ s. tree_of (files_in s) };
 
@@ -169,11 +127,18 @@ impl Source for MemSource {
 
     ghost slips = { λ s. slips_in s };
 
+    ghost schedule = { λ s. Some (schedule_in s) };
+
     fn list(&mut self, alloc: Global) -> Result<Vec<RawEntry>, SourceFail> {
-        if self.fails_now() {
-            return Err(self.fault());
+        if self.files.len() > u32::MAX as usize {
+            return Err(self.tally.fail(false));
         }
-        listing(alloc, &self.files)
+        if self.tally.is_due() {
+            return Err(self.tally.fail(false));
+        }
+        let raw = listing(alloc, &self.files)?;
+        self.tally.end();
+        Ok(raw)
     }
 
     fn read_exact_at(
@@ -182,17 +147,17 @@ impl Source for MemSource {
         offset: u64,
         into: &mut [u8],
     ) -> Result<(), SourceFail> {
-        let failing = self.fails_now();
         let place = place_of(&self.files, path, self.near);
         self.near = place.unwrap_or(self.near);
-        match part_at(&self.files, place, offset, into.len()) {
-            Some(bytes) if !failing => {
-                into.copy_from_slice(bytes);
-                Ok(())
-            }
-            Some(_) => Err(self.fault()),
-            None => Err(self.slip()),
+        let Some(bytes) = part_at(&self.files, place, offset, into.len()) else {
+            return Err(self.tally.fail(true));
+        };
+        if self.tally.is_due() {
+            return Err(self.tally.fail(false));
         }
+        into.copy_from_slice(bytes);
+        self.tally.end();
+        Ok(())
     }
 
     ghost told_is_tree = { λ s. told_is_tree (files_in s) };

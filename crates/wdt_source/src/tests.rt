@@ -22,7 +22,6 @@ fn lists_and_reads(rt: HostRuntime) -> Result<(), Fail> {
     for (path, bytes) in rows {
         files.push(plain(alloc, path, bytes)?)?;
     }
-    assert!(rt; files.len() < 10);
     let mut source = MemSource::of(files, Vec::from_slice(alloc, &[2, 5])?);
     let raw = source.list(alloc)?;
     assert_eq!(rt; raw.len(), 3);

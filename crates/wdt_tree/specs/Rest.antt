@@ -1,8 +1,9 @@
 -- What is still to be sent of a tree to a destination that has a part of it: a condition on positions.
 -- Files are numbered from 0 in the order of their paths.
-use Rattle.std.specs.Prelude.{◌≡◌, ℕ, ◌+◌, ◌-◌, Bool, true, false, not, ◌==◌, nat_lt, nat_le, ◌||◌, ◌&&◌, if◌then◌else◌, List, [], ◌∷◌, count_by, slice_get, Option, Some, None}
+use Rattle.std.specs.Prelude.{◌≡◌, ℕ, ◌+◌, ◌-◌, Bool, true, false, not, ◌==◌, nat_lt, nat_le, ◌||◌, ◌&&◌, if◌then◌else◌, List, count_by, slice_get, Option, Some, None}
 use Rattle.std.specs.List.{list_all, list_any}
 use Rattle.wdt_units.specs.Have.{HaveFile, is_covered, is_named}
+use Rattle.wdt_units.specs.Rising.{is_rising_by}
 use Rattle.wdt_units.specs.declared.blocks.Block.{Block}
 use Rattle.wdt_tree.specs.declared.entry.Entry.{Entry}
 
@@ -11,6 +12,7 @@ abbrev pub lacks_position : List HaveFile → Option Entry → ℕ → Bool
 lacks_position have None position = false
 lacks_position have (Some entry) position = nat_lt position entry.size && not (is_covered have entry.path position)
 
+-- a position of the file of a number is missing
 abbrev pub is_missing : List Entry → List HaveFile → ℕ → ℕ → Bool
 is_missing entries have file position = lacks_position have (slice_get entries file) position
 
@@ -19,6 +21,7 @@ abbrev pub has_position : List HaveFile → Option Entry → ℕ → Bool
 has_position have None position = false
 has_position have (Some entry) position = is_covered have entry.path position
 
+-- a position of the file of a number is there
 abbrev pub is_there : List Entry → List HaveFile → ℕ → ℕ → Bool
 is_there entries have file position = has_position have (slice_get entries file) position
 
@@ -46,8 +49,7 @@ is_earlier a b = nat_lt a.file b.file || (a.file == b.file && nat_lt a.offset b.
 
 -- each block comes before all later ones
 abbrev pub is_rising : List Block → Bool
-is_rising [] = true
-is_rising (block ∷ blocks) = list_all (is_earlier block) blocks && is_rising blocks
+is_rising blocks = is_rising_by is_earlier blocks
 
 -- a whole block of this many bytes ends where another begins
 abbrev pub is_behind : ℕ → Block → Block → Bool
@@ -63,6 +65,7 @@ abbrev pub ends : List Entry → List HaveFile → ℕ → Block → Bool
 ends entries have most block =
     block.length == most || is_end (slice_get entries block.file) (block.offset + block.length) || is_there entries have block.file (block.offset + block.length)
 
+-- a block is cut as the rest's are: no longer than a whole one, beginning and ending where it may
 abbrev pub is_cut : List Entry → List HaveFile → ℕ → List Block → Block → Bool
 is_cut entries have most blocks block =
     nat_le block.length most && begins entries have most blocks block && ends entries have most block

@@ -93,19 +93,19 @@ impl Manifest {
         Ok(Manifest { entries, total })
     }
 
-    /// How many files there are, at most 262,144.
+    /// How many files there are, at most `MAX_FILES`.
     pub fn count(&self) -> u32
         ensures count { result ≡ length self.now }
-        ensures limit { result ≤ 262144 }
+        ensures limit { result ≤ MAX_FILES }
         ensures lawful { IsManifest self.now }
     {
         self.entries.len() as u32
     }
 
-    /// How many bytes the files have together, at most 2^50.
+    /// How many bytes the files have together, at most `MAX_TOTAL`.
     pub fn total(&self) -> u64
         ensures total { result ≡ sum_by size_of self.now }
-        ensures limit { result ≤ 2 ^ 50 }
+        ensures limit { result ≤ MAX_TOTAL }
     {
         self.total
     }
@@ -137,19 +137,13 @@ impl Manifest {
     pub fn copy(&self) -> Result<Manifest, NoMemory>
         ensures { IfOk result (λ m. m ≡ self.now) }
     {
-        let Ok(mut entries) = Vec::with_capacity(*self.entries.allocator(), self.entries.len())
-        else {
-            return Err(NoMemory);
-        };
+        let mut entries = Vec::with_capacity(*self.entries.allocator(), self.entries.len())?;
         for entry in &self.entries {
-            let copy = Entry {
+            entries.push(Entry {
                 path: entry.path.copy()?,
                 size: entry.size,
                 stamp: entry.stamp,
-            };
-            if entries.push(copy).is_err() {
-                return Err(NoMemory);
-            }
+            })?;
         }
         Ok(Manifest {
             entries,

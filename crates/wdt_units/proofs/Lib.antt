@@ -1,8 +1,3 @@
-pub mod BlockCounts
-pub mod BlockOrder
-pub mod Found
-pub mod Lawful
-pub mod PathBytes
-pub mod PathFill
-pub mod PathParts
-pub mod Utf8Scan
+pub mod LaneSetLaws
+pub mod lemmas
+pub mod Shared

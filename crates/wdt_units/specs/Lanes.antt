@@ -17,6 +17,7 @@ abbrev pub laned : {E : Type 0} → (E → Option ℕ) → List E → List E
 laned lane_of [] = []
 laned lane_of (entry ∷ history) = elim (lane_of entry) [ None ↦ laned lane_of history | Some lane ↦ entry ∷ laned lane_of history ]
 
+-- 1 for an entry of no lane
 abbrev pub one_if_none : Option ℕ → ℕ
 one_if_none None = 1
 one_if_none (Some lane) = 0
@@ -26,6 +27,7 @@ abbrev pub loose : {E : Type 0} → (E → Option ℕ) → List E → ℕ
 loose lane_of [] = 0
 loose lane_of (entry ∷ history) = one_if_none (lane_of entry) + loose lane_of history
 
+-- an entry is of this lane, or of none
 abbrev pub IsOf : Option ℕ → ℕ → Type 0
 IsOf None lane = Unit {0}
 IsOf (Some other) lane = other ≡ lane
@@ -54,5 +56,6 @@ pub loose-laned : {E : Type 0} (lane : E → ℕ) (history : List E) → loose (
 loose-laned lane [] = refl
 loose-laned lane (entry ∷ history) = omega (arith, loose-laned lane history)
 
+-- so at most one is without
 pub few_loose : {E : Type 0} (lane : E → ℕ) (history : List E) → loose (λ entry. Some (lane entry)) history ≤ 1
 few_loose lane history = omega (arith, loose-laned lane history)

@@ -23,6 +23,7 @@ lead b =
 abbrev pub among : ℕ → ℕ → PathScan → ℕ → Option PathScan
 among low high s b = if nat_lt b low then None else if nat_lt high b then None else Some s
 
+-- the state behind a byte, where a path may go on with it
 abbrev pub next : PathScan → ℕ → Option PathScan
 next Start b = if b == 47 then None else if b == 46 then Some Dot else lead b
 next Dot b = if b == 47 then None else if b == 46 then Some Dots else lead b
@@ -50,6 +51,7 @@ need AfterEd = 2
 need AfterF0 = 3
 need AfterF4 = 3
 
+-- a path may end within so many bytes more
 abbrev pub leaves : ℕ → Option PathScan → Bool
 leaves more None = false
 leaves more (Some s) = nat_le (need s) more
@@ -59,9 +61,11 @@ abbrev pub within : ℕ → Option PathScan → Option PathScan
 within more None = None
 within more (Some s) = if nat_le (need s) more then Some s else None
 
+-- a state, where there is one
 abbrev pub or_plain : Option PathScan → PathScan
 or_plain None = Plain
 or_plain (Some s) = s
 
+-- the state behind a byte that a path may go on with
 abbrev pub scan_after : PathScan → ℕ → PathScan
 scan_after s b = or_plain (next s b)

@@ -1,5 +1,5 @@
 //! Where a script comes from.
-ghost use Rattle.std.specs.Prelude.{◌≡◌, ◌≤◌, ℕ, List, length, min, take, Option, None, IfOk};
+ghost use Rattle.std.specs.Prelude.{◌≡◌, ◌≤◌, ℕ, List, length, min, take, Option, None, IfOk, is_err};
 ghost use Rattle.wdt_units.specs.Counts.{HasCause};
 ghost use Rattle.wdt_units.specs.Inputs.{Reads};
 
@@ -35,10 +35,13 @@ pub struct MemInput {
 
 impl MemInput {
     ghost use Rattle.std.specs.Prelude.{◌≡◌};
-    ghost use Rattle.wdt_units.specs.Memory.{left_in};
+    ghost use Rattle.wdt_units.specs.View.{left_in, new_schedule, schedule_of_input, faults_of_input};
 
+    /// An input of these bytes, of which no call was made.
     pub fn of(bytes: Vec<u8>, fails: Vec<u32>) -> MemInput
-        ensures { left_in result ≡ bytes.items }
+        ensures left { left_in result ≡ bytes.items }
+        ensures schedule { schedule_of_input result ≡ new_schedule fails.items }
+        ensures faults { faults_of_input result ≡ 0 }
     {
         MemInput {
             bytes,
@@ -52,13 +55,20 @@ impl MemInput {
 
 impl Input for MemInput {
     ghost use Rattle.std.specs.Prelude.{Some};
-    ghost use Rattle.wdt_units.specs.Memory.{left_in};
+    ghost use Rattle.wdt_units.specs.View.{left_in, schedule_of_input, faults_of_input};
+    ghost use Rattle.wdt_units.specs.Schedule.{is_due, numbered};
 
     ghost left = { λ i. Some (left_in i) };
 
-    ghost faults = { λ i. i.faults };
+    ghost faults = { faults_of_input };
 
-    fn read(&mut self, into: &mut [u8]) -> Result<usize, Failed> {
+    fn read(&mut self, into: &mut [u8]) -> Result<usize, Failed>
+        ensures within { IfOk result (λ n. n ≤ length into.new) }
+        ensures bytes { Reads result into.new (Some (left_in self.old)) (Some (left_in self.new)) }
+        ensures cause { HasCause result (faults_of_input self.old) (faults_of_input self.new) }
+        ensures failing { is_err result ≡ is_due (schedule_of_input self.old) }
+        ensures schedule { schedule_of_input self.new ≡ numbered (schedule_of_input self.old) }
+    {
         self.calls = self.calls.saturating_add(1);
         if self.fails.contains(&self.calls) {
             self.faults = self.faults.saturating_add(1);
@@ -89,7 +99,13 @@ pub struct FromRead<T: Read + Drop> {
 }
 
 impl<T: Read + Drop> FromRead<T> {
-    pub fn of(reader: T) -> FromRead<T> {
+    ghost use Rattle.std.specs.Prelude.{◌≡◌};
+    ghost use Rattle.wdt_units.specs.View.{faults_of_reader};
+
+    /// An input over the reader, of which no call has failed.
+    pub fn of(reader: T) -> FromRead<T>
+        ensures { faults_of_reader result ≡ 0 }
+    {
         FromRead {
             reader,
             faults: 0,
@@ -104,9 +120,11 @@ impl<T: Read + Drop> FromRead<T> {
 }
 
 impl<T: Read + Drop> Input for FromRead<T> {
+    ghost use Rattle.wdt_units.specs.View.{faults_of_reader};
+
     ghost left = { λ _. None };
 
-    ghost faults = { λ i. i.faults };
+    ghost faults = { faults_of_reader };
 
     fn read(&mut self, into: &mut [u8]) -> Result<usize, Failed> {
         match self.reader.read(into) {

@@ -11,28 +11,30 @@
 #![tactic(auto)]
 
 mod blocks;
-mod check;
+mod decimal;
 mod failures;
 mod inputs;
-mod laws;
+mod lanes;
 mod limits;
 mod machine;
 mod numbers;
 mod path;
-mod place;
 mod scan;
 mod sinks;
 
 pub use blocks::{Block, Header};
-pub use check::CheckFail;
+pub use decimal::number_of;
 pub use failures::{Failed, NoMemory};
 pub use inputs::{FromRead, Input, MemInput};
-pub use laws::rising_blocks_are_one_list;
-pub use limits::{MAX_BLOCK, MAX_FILE_SIZE, MAX_FILES, MAX_PATH, MAX_TOTAL, PIECE};
+pub use lanes::Lanes;
+pub use limits::{
+    DEFAULT_BATCH, DEFAULT_BLOCK, MAX_BATCH, MAX_BLOCK, MAX_BLOCKS, MAX_CONNECTIONS, MAX_FILE_SIZE,
+    MAX_FILES, MAX_LANES, MAX_MARKS, MAX_PATH, MAX_SPANS, MAX_SPOTS, MAX_TOTAL, MAX_TRIES,
+    MAX_WRITE_END, PIECE,
+};
 pub use machine::Machine;
 pub use numbers::{Conn, Lane, LaneSet, Spot};
-pub use path::{Name, NameFail, is_reserved};
-pub use place::Place;
+pub use path::{LOG_PATH, NEW_LOG_PATH, Name, NameFail, is_reserved};
 pub use scan::{PathScan, scan_on};
 pub use sinks::{MemSink, Sink, ToWrite};
 

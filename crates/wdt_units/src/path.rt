@@ -12,6 +12,12 @@ use std::marker::Model;
 use std::str::from_utf8_unchecked;
 use thiserror::Error;
 
+/// Where a receiver keeps its log.
+pub const LOG_PATH: [u8; 5] = *b".wlog";
+
+/// Where a receiver writes a new log before it puts it in the other's place.
+pub const NEW_LOG_PATH: [u8; 9] = *b".wlog.new";
+
 /// Why bytes made no name.
 #[derive(Clone, Copy, Debug, PartialEq, Eq, Error)]
 pub enum NameFail {
@@ -20,6 +26,14 @@ pub enum NameFail {
     Bad,
     #[error("out of memory")]
     NoMemory,
+}
+
+impl From<NoMemory> for NameFail {
+    ghost from_gives = { λ _ e. e ≡ OutOfMemory };
+
+    fn from(_: NoMemory) -> NameFail {
+        NameFail::NoMemory
+    }
 }
 
 impl From<AllocError> for NameFail {
@@ -58,10 +72,7 @@ impl Name {
         if !is_lawful(bytes) {
             return Err(NameFail::Bad);
         }
-        match Name::of_lawful(alloc, bytes) {
-            Ok(name) => Ok(name),
-            Err(_) => Err(NameFail::NoMemory),
-        }
+        Ok(Name::of_lawful(alloc, bytes)?)
     }
 
     /// The name of bytes that are known to be a lawful path.
@@ -70,10 +81,8 @@ impl Name {
         ensures { IfOk result (λ name. name ≡ bytes.now) }
     {
         // A lawful path is UTF-8, so its bytes are not read a second time.
-        match String::from_str(alloc, unsafe { from_utf8_unchecked(bytes) }) {
-            Ok(text) => Ok(Name { text }),
-            Err(_) => Err(NoMemory),
-        }
+        let text = String::from_str(alloc, unsafe { from_utf8_unchecked(bytes) })?;
+        Ok(Name { text })
     }
 
     pub fn bytes(&self) -> &[u8]
@@ -93,10 +102,8 @@ impl Name {
     pub fn copy(&self) -> Result<Name, NoMemory>
         ensures { IfOk result (λ name. name ≡ self.now) }
     {
-        match self.text.clone() {
-            Ok(text) => Ok(Name { text }),
-            Err(_) => Err(NoMemory),
-        }
+        let text = self.text.clone()?;
+        Ok(Name { text })
     }
 
     /// The same name in memory that was made before: this text is empty, and has room for the longest
@@ -122,7 +129,7 @@ impl Name {
 pub fn is_reserved(path: &[u8]) -> bool
     ensures { result ≡ is_reserved path.now }
 {
-    path == b".wlog".as_slice() || path == b".wlog.new".as_slice()
+    path == LOG_PATH.as_slice() || path == NEW_LOG_PATH.as_slice()
 }
 
 // Whether the scan goes through all the bytes.

@@ -1,7 +1,6 @@
 //! Where the lines of a run are put.
-ghost use Rattle.std.specs.Prelude.{◌≡◌, ℕ, List, Option, Some, None, []};
+ghost use Rattle.std.specs.Prelude.{◌≡◌, true, ℕ, List, Option, Some, None, [], IsErr, OnErr};
 ghost use Rattle.wdt_units.specs.Counts.{HasCause};
-ghost use Rattle.wdt_units.specs.Memory.{written_in};
 ghost use Rattle.wdt_units.specs.Sinks.{Puts};
 
 use crate::failures::Failed;
@@ -22,8 +21,8 @@ pub trait Sink {
         ensures cause { HasCause result (faults self.old) (faults self.new) };
 }
 
-/// A sink in memory. Calls are numbered from 1, and those whose numbers it is given fail, as does
-/// one that finds no memory for its bytes. A call that fails writes nothing.
+/// A sink in memory. Calls are numbered from 1, and those whose numbers it is given fail. So does one
+/// that finds no memory for its bytes, and that one gets no number. A call that fails writes nothing.
 #[derive(Debug, Drop)]
 pub struct MemSink {
     bytes: Vec<u8>,
@@ -33,8 +32,14 @@ pub struct MemSink {
 }
 
 impl MemSink {
+    ghost use Rattle.std.specs.Prelude.{◌≡◌, []};
+    ghost use Rattle.wdt_units.specs.View.{written_in, new_schedule, schedule_of_sink, faults_of_sink};
+
+    /// A sink to which nothing was written.
     pub fn of(alloc: Global, fails: Vec<u32>) -> MemSink
-        ensures { written_in result ≡ [] }
+        ensures written { written_in result ≡ [] }
+        ensures schedule { schedule_of_sink result ≡ new_schedule fails.items }
+        ensures faults { faults_of_sink result ≡ 0 }
     {
         MemSink {
             bytes: Vec::new(alloc),
@@ -53,17 +58,32 @@ impl MemSink {
 }
 
 impl Sink for MemSink {
+    ghost use Rattle.wdt_units.specs.View.{written_in, schedule_of_sink, faults_of_sink, schedule_behind};
+    ghost use Rattle.wdt_units.specs.Schedule.{is_due};
+
     ghost written = { λ s. Some (written_in s) };
 
-    ghost faults = { λ s. s.faults };
+    ghost faults = { faults_of_sink };
 
-    fn put(&mut self, bytes: &[u8]) -> Result<(), Failed> {
-        self.calls = self.calls.saturating_add(1);
-        if !self.fails.contains(&self.calls) && self.bytes.extend_from_slice(bytes).is_ok() {
-            return Ok(());
+    fn put(&mut self, bytes: &[u8]) -> Result<(), Failed>
+        ensures bytes { Puts bytes.now result (Some (written_in self.old)) (Some (written_in self.new)) }
+        ensures nothing { OnErr result (written_in self.new ≡ written_in self.old) }
+        ensures cause { HasCause result (faults_of_sink self.old) (faults_of_sink self.new) }
+        ensures failing { is_due (schedule_of_sink self.old) ≡ true → IsErr result }
+        ensures schedule { schedule_of_sink self.new ≡ schedule_behind result (schedule_of_sink self.old) }
+    {
+        let number = self.calls.saturating_add(1);
+        if self.fails.contains(&number) {
+            self.calls = number;
+            self.faults = self.faults.saturating_add(1);
+            return Err(Failed);
         }
-        self.faults = self.faults.saturating_add(1);
-        Err(Failed)
+        if self.bytes.extend_from_slice(bytes).is_err() {
+            self.faults = self.faults.saturating_add(1);
+            return Err(Failed);
+        }
+        self.calls = number;
+        Ok(())
     }
 }
 
@@ -76,7 +96,13 @@ pub struct ToWrite<W: Write + Drop> {
 }
 
 impl<W: Write + Drop> ToWrite<W> {
-    pub fn of(writer: W) -> ToWrite<W> {
+    ghost use Rattle.std.specs.Prelude.{◌≡◌};
+    ghost use Rattle.wdt_units.specs.View.{faults_of_writer};
+
+    /// A sink over the writer, of which no call has failed.
+    pub fn of(writer: W) -> ToWrite<W>
+        ensures { faults_of_writer result ≡ 0 }
+    {
         ToWrite {
             writer,
             faults: 0,
@@ -91,9 +117,11 @@ impl<W: Write + Drop> ToWrite<W> {
 }
 
 impl<W: Write + Drop> Sink for ToWrite<W> {
+    ghost use Rattle.wdt_units.specs.View.{faults_of_writer};
+
     ghost written = { λ _. None };
 
-    ghost faults = { λ s. s.faults };
+    ghost faults = { faults_of_writer };
 
     fn put(&mut self, bytes: &[u8]) -> Result<(), Failed> {
         let written = match self.writer.write_all(bytes) {

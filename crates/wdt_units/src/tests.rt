@@ -2,7 +2,9 @@
 //! memory.
 ghost use Rattle.wdt_units.specs.Lanes.{Below};
 
-use crate::{Failed, Input, Lane, Machine, MemInput, MemSink, Name, NameFail, Sink};
+use crate::{
+    Failed, Input, Lane, LaneSet, Machine, MemInput, MemSink, Name, NameFail, Sink, number_of,
+};
 use std::test::Fail;
 
 #[test]
@@ -23,6 +25,30 @@ fn names(rt: HostRuntime) -> Result<(), Fail> {
         };
         assert_eq!(rt; got, want, "{path:?}");
     }
+    Ok(())
+}
+
+#[test]
+fn numbers(rt: HostRuntime) {
+    for (word, want) in [
+        ("0", Some(0)),
+        ("40", Some(40)),
+        ("18446744073709551615", Some(u64::MAX)),
+        ("18446744073709551616", None),
+        ("", None),
+        ("04", None),
+        ("+4", None),
+        ("4 ", None),
+    ] {
+        assert_eq!(rt; number_of(word), want, "{word:?}");
+    }
+}
+
+#[test]
+fn lanes_of_a_set(rt: HostRuntime) -> Result<(), Fail> {
+    let set = LaneSet::only(Lane(9)).with(LaneSet::only(Lane(2)));
+    let lanes: Vec<u8> = set.lanes().map(|lane| lane.0).collect(rt.alloc())?;
+    assert_eq!(rt; lanes.as_slice(), [2, 9].as_slice());
     Ok(())
 }
 

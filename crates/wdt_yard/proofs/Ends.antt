@@ -2,10 +2,10 @@
 use Rattle.std.proofs.Common.{◌≡◌, ◌≢◌, ℕ, ◌≤◌, ◌<◌, ◌==◌, ◌&&◌, not, zero, suc, Bool, true, false, List, [], ◌∷◌, ◌++◌, length, set, slice_get, Option, Some, None, Result, Ok, Err, OnOk, OnErr, IfSome, MatchOption, is_some, if◌then◌else◌, replicate, refl, sym, ap, ◌∙◌, subst, inl, inr, arith}
 use Rattle.std.proofs.lemmas.Bool.{cases_eq, ne_eqb}
 use Rattle.std.proofs.lemmas.List.{length-replicate, length-set}
-use Rattle.wdt_units.specs.Blocks.{count_of}
+use Rattle.wdt_claims.specs.Blocks.{count_of}
 use Rattle.wdt_units.specs.Have.{HaveFile}
-use Rattle.wdt_units.specs.LaneWords.{Claims, sent}
-use Rattle.wdt_units.proofs.BlockCounts.{count_of-nil}
+use Rattle.wdt_claims.specs.LaneWords.{Claims, sent}
+use Rattle.wdt_claims.proofs.Shared.{count_of-nil}
 use Rattle.wdt_units.specs.declared.blocks.Block.{Block}
 use Rattle.wdt_units.specs.declared.numbers.Conn.{Conn}
 use Rattle.wdt_units.specs.declared.numbers.Lane.{Lane}
@@ -19,7 +19,7 @@ use Rattle.wdt_sender_fsm.specs.declared.peers.PeerKind.{PeerKind}
 use Rattle.wdt_sender_fsm.specs.declared.states.SendLane.{SendLane}
 use Rattle.wdt_sender_fsm.specs.declared.states.SendState.TheVariants.{Connect}
 use Rattle.wdt_sender_fsm.specs.declared.states.SendState.TheVariants as states
-use Rattle.wdt_sender_fsm.proofs.Steps.{get_set}
+use Rattle.wdt_sender_fsm.proofs.Shared.{get_set}
 use Rattle.wdt_sender_fsm.specs.PlainSender.{PlainSender, answer_of, lane_or_ended, listed_blocks, new_lane}
 use Rattle.wdt_sender_fsm.specs.Places.{least_of, queued}
 use Rattle.wdt_sender_fsm.specs.Turn.{introduces, next_conn}

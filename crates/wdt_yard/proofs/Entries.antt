@@ -1,11 +1,11 @@
 -- What one more entry makes of the claims, the tallies and the finish.
 use Rattle.std.proofs.Common.{◌≡◌, ◌≢◌, ℕ, ◌<◌, ◌==◌, Bool, true, List, [], ◌∷◌, ◌++◌, get_or, set, if◌then◌else◌, refl, sym, ap, ◌∙◌}
-use Rattle.wdt_units.specs.LaneWords.{Claims}
-use Rattle.wdt_units.specs.Claimed.{lane_at, with_lane}
+use Rattle.wdt_claims.specs.LaneWords.{Claims}
+use Rattle.wdt_claims.specs.Claimed.{lane_at, with_lane}
 use Rattle.wdt_sender_fsm.specs.declared.events.SendEvent.{SendEvent}
 use Rattle.wdt_sender_fsm.specs.declared.events.SendEvent.TheVariants as events
 use Rattle.wdt_sender_fsm.specs.Places.{claims_of}
-use Rattle.wdt_sender_fsm.proofs.Claimed.{claims_at, claims_one, tabulate_at, tabulate_same, tabulate_set}
+use Rattle.wdt_sender_fsm.proofs.Shared.{claims_at, claims_one, tabulate_at, tabulate_same, tabulate_set}
 use Rattle.wdt_sender_fsm.specs.SenderHistory.{LanePast, past_of, past_of-more, end_of, end_of-more, claims_after, end_finish_after, past_after, EndPast}
 use Rattle.wdt_yard.specs.declared.tally.Tally.{Tally}
 use Rattle.wdt_yard.specs.Ledger.{is_quiet}

@@ -6,14 +6,13 @@ use Rattle.std.proofs.lemmas.List.{length-set, length_push, set-get_or}
 use Rattle.wdt_units.specs.declared.blocks.Block.{Block}
 use Rattle.wdt_units.specs.declared.numbers.Conn.{Conn}
 use Rattle.wdt_units.specs.declared.numbers.Lane.{Lane}
-use Rattle.wdt_units.specs.Blocks.{are_rising, count_of, HaveSameBlocks}
-use Rattle.wdt_units.specs.LaneWords.{Claims, no_claims, claimed, sent, cut_to, closed_at, finished}
-use Rattle.wdt_units.proofs.BlockCounts.{count_of-cons, count_of-nil, count_of-push, one_if-true, rising_distinct}
-use Rattle.wdt_units.proofs.BlockOrder.{same_itself}
+use Rattle.wdt_claims.specs.Blocks.{are_rising, count_of, HaveSameBlocks}
+use Rattle.wdt_claims.specs.LaneWords.{Claims, no_claims, claimed, sent, cut_to, closed_at, finished}
+use Rattle.wdt_claims.proofs.Shared.{count_of-cons, count_of-nil, count_of-push, one_if-true, rising_distinct, same_itself}
 use Rattle.wdt_queue.specs.Waiting.{Waiting}
-use Rattle.wdt_units.specs.declared.check.CheckFail.{CheckFail}
-use Rattle.wdt_units.specs.Checks.{fault_of, goes_back, back_by}
-use Rattle.wdt_units.specs.Claimed.{count_kept, lane_at, with_lane}
+use Rattle.wdt_claims.specs.declared.check.CheckFail.{CheckFail}
+use Rattle.wdt_claims.specs.Checks.{fault_of, goes_back, back_by}
+use Rattle.wdt_claims.specs.Claimed.{count_kept, lane_at, with_lane}
 use Rattle.wdt_history.specs.Slots.{Book}
 use Rattle.wdt_history.proofs.Keeps.{count_kept-finished, count_kept-with}
 use Rattle.wdt_sender_fsm.specs.declared.events.SendEvent.{SendEvent}
@@ -28,7 +27,7 @@ use Rattle.wdt_yard.specs.Tallies.{tally_of, tallies_of}
 use Rattle.wdt_yard.proofs.Counts.{right_count}
 use Rattle.wdt_yard.proofs.Entries.{claims_same, tallies_same, finish_same, claims_set, tallies_set, quiet_claims, quiet_tally, quiet_finish}
 use Rattle.wdt_yard.proofs.Queues.{rising_rest}
-use Rattle.wdt_sender_fsm.proofs.Claimed.{claims_finish}
+use Rattle.wdt_sender_fsm.proofs.Shared.{claims_finish}
 use Rattle.wdt_yard.proofs.Readings.{lanes_within, claims_read, total_with, total_finished, none_kept, parts_length}
 
 -- ---- quiet entries

@@ -2,6 +2,7 @@ pub mod Counts
 pub mod Ends
 pub mod Entries
 pub mod Keeps
+pub mod Limits
 pub mod Listings
 pub mod Machines
 pub mod Marks

@@ -29,11 +29,11 @@ counted false true n m k stays e = omega (arith, e)
 counted false false n m k stays e = omega (arith, e)
 
 -- what a step does, by the history and the lane's stand
-pub turned_so : (s : PlainSender) (l : Lane) (put : SendIn) (act : SendAct) (t : PlainSender) → send_turn s l put ≡ (act, t) → Touches s l (send_turn s l put).1 → Follows s l put (send_turn s l put).1
+pub turned_so : (s : PlainSender) (l : Lane) (put : SendIn) (act : SendAct) (t : PlainSender) → send_turn s l put ≡ (act, t) → Touches s l put (send_turn s l put).1 → Follows s l put (send_turn s l put).1
     → (more : List SendEvent) × (t.history ≡ s.history ++ more) × AllOf (λ e. Some (lane_of e)) l.0 more × (count_of s + length more ≤ count_of t) × IsTurn l.0 put s.history (lane_at s l.0) act more (lane_at t l.0)
 turned_so s l put act t e touched followed =
     let behind : (send_turn s l put).1 ≡ t = ap (λ (step : Step). step.1) e in
-    let touches = subst (λ (x : PlainSender). Touches s l x) behind touched in
+    let touches = subst (λ (x : PlainSender). Touches s l put x) behind touched in
     let follows = subst (λ (x : PlainSender). Follows s l put x) behind followed in
     let more = touches.history.entries in (
       more,

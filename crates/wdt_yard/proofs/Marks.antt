@@ -3,14 +3,14 @@ use Rattle.std.proofs.Common.{◌≡◌, ℕ, zero, suc, ◌+◌, ◌<◌, ◌==
 use Rattle.std.specs.Prelude.{nat_le}
 use Rattle.std.proofs.lemmas.Bool.{false≢true}
 use Rattle.std.proofs.lemmas.List.{append_assoc, append-nil, drop_more, map_more}
-use Rattle.wdt_units.specs.LaneWords.{Claims}
+use Rattle.wdt_claims.specs.LaneWords.{Claims}
 use Rattle.wdt_units.specs.declared.numbers.Lane.{Lane}
 use Rattle.wdt_codec.specs.declared.frames.Mark.{Mark}
 use Rattle.wdt_sender_fsm.specs.declared.events.SendEvent.{SendEvent}
 use Rattle.wdt_sender_fsm.specs.declared.peers.PeerKind.{PeerKind}
 use Rattle.wdt_sender_fsm.specs.Faults.{count_fault, has_stranger, is_stranger, marks_fault, or_else}
 use Rattle.wdt_sender_fsm.specs.PlainSender.{PlainSender, noted}
-use Rattle.wdt_sender_fsm.proofs.Marking.{or_none}
+use Rattle.wdt_sender_fsm.proofs.Shared.{or_none}
 use Rattle.wdt_sender_fsm.specs.SenderHistory.{LanePast, past_of, past_of-more, close_by}
 use Rattle.wdt_sender_fsm.specs.Turn.{global, globals}
 

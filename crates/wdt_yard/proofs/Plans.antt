@@ -7,9 +7,8 @@ use Rattle.std.proofs.lemmas.List.Sums.{sum_by-cons}
 use Rattle.std.proofs.lemmas.Option.{slice_get_within}
 use Rattle.wdt_units.specs.Have.{HaveFile}
 use Rattle.wdt_units.specs.declared.blocks.Block.{Block}
-use Rattle.wdt_units.specs.Blocks.{is_same, count_of}
-use Rattle.wdt_units.proofs.BlockCounts.{count_of-nil, count_of-cons, one_if-true, one_if-false, one_if_same}
-use Rattle.wdt_units.proofs.BlockOrder.{one_block}
+use Rattle.wdt_claims.specs.Blocks.{is_same, count_of}
+use Rattle.wdt_claims.proofs.Shared.{count_of-nil, count_of-cons, one_if-true, one_if-false, one_if_same, one_block}
 use Rattle.wdt_tree.specs.declared.entry.Entry.{Entry}
 use Rattle.wdt_tree.specs.Rest.{IsRest, holds, is_empty_of, lacks_name, lacks_position}
 use Rattle.wdt_rest.specs.Fitting.{first_unfit}

@@ -5,17 +5,14 @@ use Rattle.std.proofs.lemmas.Bool.{and_from, and_parts, or_parts, false≢true}
 use Rattle.std.proofs.lemmas.List.Sums.{sum_by-cons}
 use Rattle.std.proofs.lemmas.Option.{same_Some}
 use Rattle.wdt_units.specs.declared.blocks.Block.{Block}
-use Rattle.wdt_units.specs.Blocks.{precedes, are_rising, is_same, count_of}
-use Rattle.wdt_units.specs.LaneWords.{Claims}
-use Rattle.wdt_units.proofs.BlockOrder.{same_itself}
-use Rattle.wdt_units.proofs.BlockCounts.{count_of-cons, one_if-true, rising_once, rising_distinct}
-use Rattle.wdt_units.specs.Claimed.{count_in, count_kept}
-use Rattle.wdt_units.specs.Places.{is_queued, keeps}
-use Rattle.wdt_units.proofs.Found.{absent}
+use Rattle.wdt_claims.specs.Blocks.{precedes, are_rising, is_same, count_of}
+use Rattle.wdt_claims.specs.LaneWords.{Claims}
+use Rattle.wdt_claims.proofs.Shared.{same_itself, count_of-cons, one_if-true, rising_once, rising_distinct, absent}
+use Rattle.wdt_claims.specs.Claimed.{count_in, count_kept}
+use Rattle.wdt_claims.specs.Places.{is_queued, keeps}
 use Rattle.wdt_sender_fsm.specs.declared.events.SendEvent.{SendEvent}
 use Rattle.wdt_sender_fsm.specs.Places.{AreShared, least_of, queue_of, queued, claims_of, planned_now}
-use Rattle.wdt_sender_fsm.proofs.Counts.{present, kept_count, dropped_count}
-use Rattle.wdt_sender_fsm.proofs.Queue.{filter_all}
+use Rattle.wdt_sender_fsm.proofs.Shared.{present, kept_count, dropped_count, filter_all}
 
 -- ---- what rises
 

@@ -4,13 +4,12 @@ use Rattle.std.proofs.lemmas.Bool.Decides.{nat_tests}
 use Rattle.std.proofs.lemmas.List.{length-append, take-append-drop}
 use Rattle.std.proofs.lemmas.List.Sums.{sum_by-cons, sum_by-set, get_or-le-sum_by}
 use Rattle.wdt_units.specs.declared.blocks.Block.{Block}
-use Rattle.wdt_units.specs.Blocks.{count_of, AreDistinct}
-use Rattle.wdt_units.specs.LaneWords.{Claims, no_claims, finished}
-use Rattle.wdt_units.proofs.BlockCounts.{count_of-append, count_of-nil, count_of-parts, rising_distinct}
+use Rattle.wdt_claims.specs.Blocks.{count_of, AreDistinct}
+use Rattle.wdt_claims.specs.LaneWords.{Claims, no_claims, finished}
+use Rattle.wdt_claims.proofs.Shared.{count_of-append, count_of-nil, count_of-parts, rising_distinct, none_of}
 use Rattle.wdt_queue.specs.Waiting.{Waiting}
-use Rattle.wdt_units.specs.Checks.{goes_back, back_by}
-use Rattle.wdt_units.specs.Claimed.{count_in, count_kept, lane_at, with_lane}
-use Rattle.wdt_units.proofs.Found.{none_of}
+use Rattle.wdt_claims.specs.Checks.{goes_back, back_by}
+use Rattle.wdt_claims.specs.Claimed.{count_in, count_kept, lane_at, with_lane}
 use Rattle.wdt_history.proofs.Keeps.{count_in-le}
 use Rattle.wdt_sender_fsm.specs.declared.events.SendEvent.{SendEvent}
 use Rattle.wdt_sender_fsm.specs.declared.events.SendEvent.TheVariants as events
@@ -21,7 +20,7 @@ use Rattle.wdt_yard.specs.Kept.{IsKept, length_of, total_kept}
 use Rattle.wdt_yard.specs.Tallies.{tally_of}
 use Rattle.wdt_yard.proofs.Entries.{tally_at}
 use Rattle.wdt_yard.proofs.Queues.{nothing_in, queue_is}
-use Rattle.wdt_sender_fsm.proofs.Claimed.{claims_at, claims_length}
+use Rattle.wdt_sender_fsm.proofs.Shared.{claims_at, claims_length}
 
 -- ---- what is read
 

@@ -3,13 +3,13 @@ use Rattle.std.proofs.Common.{◌≡◌, ℕ, ◌*◌, ◌≤◌, true, false, L
 use Rattle.std.proofs.lemmas.List.Folds.{sum_by-replicate}
 use Rattle.std.proofs.lemmas.List.{length-replicate}
 use Rattle.wdt_units.specs.declared.blocks.Block.{Block}
-use Rattle.wdt_units.specs.Blocks.{are_rising, count_of}
-use Rattle.wdt_units.specs.LaneWords.{Claims, no_claims}
+use Rattle.wdt_claims.specs.Blocks.{are_rising, count_of}
+use Rattle.wdt_claims.specs.LaneWords.{Claims, no_claims}
 use Rattle.wdt_queue.specs.Waiting.{Waiting}
-use Rattle.wdt_units.specs.Claimed.{count_kept}
+use Rattle.wdt_claims.specs.Claimed.{count_kept}
 use Rattle.wdt_history.proofs.Keeps.{count_kept-none}
 use Rattle.wdt_sender_fsm.specs.Places.{claims_of}
-use Rattle.wdt_sender_fsm.proofs.Claimed.{claims_none, tabulate_one, tabulate_same}
+use Rattle.wdt_sender_fsm.proofs.Shared.{claims_none, tabulate_one, tabulate_same}
 use Rattle.wdt_sender_fsm.specs.SenderHistory.{EndPast, past_of, past_of-none, end_of-none}
 use Rattle.wdt_yard.specs.declared.tally.Tally.{Tally}
 use Rattle.wdt_yard.specs.Kept.{IsKept, total_kept, length_of}

@@ -1,6 +1,6 @@
 -- What a sender's end is seen as, with the room that was made for a step.
 use Rattle.std.specs.Prelude.{◌≡◌, ℕ, ◌-◌, ◌||◌, ◌<◌, ◌≤◌, Bool, List, [], ◌∷◌, length, slice_get, is_some, Option, All}
-use Rattle.wdt_units.specs.Blocks.{count_of}
+use Rattle.wdt_claims.specs.Blocks.{count_of}
 use Rattle.wdt_units.specs.Have.{HaveFile}
 use Rattle.wdt_units.specs.declared.blocks.Block.{Block}
 use Rattle.wdt_units.specs.declared.numbers.Lane.{Lane}

@@ -1,9 +1,9 @@
 -- What a yard keeps true.
-use Rattle.std.specs.Prelude.{◌≤◌}
 use Rattle.wdt_sender_fsm.specs.PlainSender.{PlainSender}
 use Rattle.wdt_sender_fsm.specs.Sender.{IsSender}
+use Rattle.wdt_sender_fsm.specs.Writes.{IsLawful}
 
--- a plain sender as steps leave it, whose blocks may have a byte
+-- a plain sender as steps leave it, within the limits
 pub record IsYard (s : PlainSender) : Type 0 where
   pub sender : IsSender s
-  pub some : 1 ≤ s.block
+  pub lawful : IsLawful s

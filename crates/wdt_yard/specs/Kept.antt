@@ -1,8 +1,8 @@
 -- What a journal keeps beside its history, and that the history says the same.
 use Rattle.std.specs.Prelude.{◌≡◌, ℕ, ◌-◌, ◌≤◌, Bool, true, List, length, sum_by, option_map, vec_items, vec_len, vec_capacity}
 use Rattle.wdt_units.specs.declared.blocks.Block.{Block}
-use Rattle.wdt_units.specs.Blocks.{are_rising}
-use Rattle.wdt_units.specs.LaneWords.{Claims}
+use Rattle.wdt_claims.specs.Blocks.{are_rising}
+use Rattle.wdt_claims.specs.LaneWords.{Claims}
 use Rattle.wdt_queue.specs.Waiting.{Waiting}
 use Rattle.wdt_sender_fsm.specs.declared.events.SendEvent.{SendEvent}
 use Rattle.wdt_sender_fsm.specs.Places.{AreShared, claims_of}

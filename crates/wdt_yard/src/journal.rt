@@ -1,7 +1,7 @@
 //! What happened on the lanes, and what follows from it.
 ghost use Rattle.std.specs.Prelude.{◌≡◌, ◌↔◌, ◌<◌, ◌≤◌, [], replicate, option_map, is_some, Some, None, IfOk, OnOk, IsTrue};
 ghost use Rattle.std.specs.Result.{result_err};
-ghost use Rattle.wdt_units.specs.Places.{place_of};
+ghost use Rattle.wdt_claims.specs.Places.{place_of};
 ghost use Rattle.wdt_sender_fsm.specs.Faults.{count_fault};
 ghost use Rattle.wdt_sender_fsm.specs.Places.{claims_of, least_of, queued, unfinished};
 ghost use Rattle.wdt_sender_fsm.specs.PlainSender.{listed_blocks};

@@ -12,20 +12,14 @@
 #![tactic(auto)]
 
 mod answers;
-mod blocks;
-mod chunks;
-mod closing;
-mod connecting;
 mod end;
-mod failing;
 mod faults;
-mod finishing;
-mod greeting;
 mod journal;
 mod machine;
 mod notes;
 mod noting;
 mod planning;
+mod rows;
 mod tally;
 mod turning;
 mod yard;

@@ -1,9 +1,11 @@
 //! The yard as state that lanes share.
-ghost use Rattle.std.specs.Prelude.{◌+◌, length, Some};
-ghost use Rattle.wdt_units.specs.Lanes.{few_loose};
+ghost use Rattle.std.specs.Prelude.{◌≡◌, ◌≢◌, ℕ, ◌+◌, ◌≤◌, List, ◌++◌, length, Some, IfOk, IfErr};
+ghost use Rattle.wdt_units.specs.Lanes.{few_loose, AllOf, Below};
 ghost use Rattle.wdt_sender_fsm.specs.PlainSender.{lane_at};
 ghost use Rattle.wdt_sender_fsm.specs.Sender.{FitsIn};
 ghost use Rattle.wdt_sender_fsm.specs.SenderHistory.{lane_of};
+ghost use Rattle.wdt_sender_fsm.specs.Turn.{send_turn};
+ghost use Rattle.wdt_sender_fsm.specs.declared.events.SendEvent.{SendEvent as PlainEvent};
 ghost use Rattle.wdt_yard.specs.Turns.{IsLegalOfSome, IsTurn, count_of};
 
 use crate::yard::Yard;
@@ -37,7 +39,19 @@ impl Machine for Yard {
 
     ghost counted = { count_of };
 
-    fn turn(&mut self, lane: Lane, put: SendIn) -> Result<SendAct, SendIn> {
+    /// One step of a lane, as `Yard::step` makes it. Its last two clauses say of this machine what the
+    /// trait can't: which step it is, and that want of memory changes nothing at all.
+    fn turn(&mut self, lane: Lane, put: SendIn) -> Result<SendAct, SendIn>
+        requires lane { Below (Some (length self.old.lanes)) lane.0 }
+        requires fits { FitsIn put }
+        ensures ok { IfOk result (λ act. (more : List PlainEvent) × (self.new.history ≡ self.old.history ++ more) × AllOf (λ e. Some (lane_of e)) lane.0 more × (count_of self.old + length more ≤ count_of self.new) × IsTurn lane.0 put self.old.history (lane_at self.old lane.0) act more (lane_at self.new lane.0)) }
+        ensures err { IfErr result (λ back. (back ≡ put) × (self.new.history ≡ self.old.history) × (lane_at self.new lane.0 ≡ lane_at self.old lane.0) × (count_of self.new ≡ count_of self.old)) }
+        ensures others { (other : ℕ) → other ≢ lane.0 → lane_at self.new other ≡ lane_at self.old other }
+        ensures lanes { Some (length self.new.lanes) ≡ Some (length self.old.lanes) }
+        ensures legal { IsLegalOfSome self.new.history }
+        ensures step { IfOk result (λ act. send_turn self.old lane put ≡ (act, self.new)) }
+        ensures back { IfErr result (λ back. (back ≡ put) × (self.new ≡ self.old)) }
+    {
         // The laws: what a step leaves as it is, and that a failed end's answer stays.
         steps_touch_their_lane();
         steps_answer_rightly();

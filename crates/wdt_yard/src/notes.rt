@@ -1,7 +1,7 @@
 //! What a step notes.
 ghost use Rattle.std.specs.Prelude.{◌≡◌, ◌+◌, ◌<◌, Some, None, false, is_some, OnOk, OnErr, IfSome, IsTrue, MatchOption};
 ghost use Rattle.std.specs.Result.{result_err};
-ghost use Rattle.wdt_units.specs.Blocks.{are_rising, HaveSameBlocks};
+ghost use Rattle.wdt_claims.specs.Blocks.{are_rising, HaveSameBlocks};
 ghost use Rattle.wdt_sender_fsm.specs.Faults.{count_fault};
 ghost use Rattle.wdt_sender_fsm.specs.Places.{least_of, queued};
 ghost use Rattle.wdt_sender_fsm.specs.PlainSender.{listed_blocks};
@@ -98,7 +98,8 @@ impl Journal {
     pub fn sent(&mut self, lane: Lane)
         requires lane { lane.0 < self.old.lanes }
         requires room { 0 < self.old.spare }
-        ensures { self.new ≡ with_entry self.old (SendEvent.Sent lane) }
+        ensures noted { self.new ≡ with_entry self.old (SendEvent.Sent lane) }
+        ensures waiting { least_of (queued self.new.lanes (listed_blocks self.new.planned) self.new.history) ≡ least_of (queued self.old.lanes (listed_blocks self.old.planned) self.old.history) }
     {
         self.claims.sent(lane);
         self.events.push_reserved(SendEvent::Sent(lane));

@@ -1,7 +1,7 @@
 //! What an end notes in its journal.
 ghost use Rattle.std.specs.Prelude.{◌≡◌, ◌<◌, [], ◌∷◌, length, Some, None, false, is_some, OnOk, OnErr, IfSome, IsTrue, MatchOption};
 ghost use Rattle.std.specs.Result.{result_err};
-ghost use Rattle.wdt_units.specs.Blocks.{are_rising, HaveSameBlocks};
+ghost use Rattle.wdt_claims.specs.Blocks.{are_rising, HaveSameBlocks};
 ghost use Rattle.wdt_sender_fsm.specs.Faults.{count_fault};
 ghost use Rattle.wdt_sender_fsm.specs.PlainSender.{is_closed, least_queued, past_at, state_at};
 ghost use Rattle.wdt_sender_fsm.specs.Turn.{introduces};
@@ -100,7 +100,8 @@ impl SendEnd {
     pub fn sent(&mut self, lane: Lane)
         requires lane { lane.0 < length self.old.plain.lanes }
         requires room { 0 < self.old.spare }
-        ensures { self.new ≡ with_note self.old (SendEvent.Sent lane) }
+        ensures noted { self.new ≡ with_note self.old (SendEvent.Sent lane) }
+        ensures waiting { least_queued self.new.plain ≡ least_queued self.old.plain }
     {
         self.journal.sent(lane);
     }

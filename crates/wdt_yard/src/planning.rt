@@ -1,7 +1,7 @@
 //! What is planned for a destination.
 ghost use Rattle.std.specs.Prelude.{◌≡◌, ◌≢◌, ◌<◌, ◌≤◌, ◌^◌, length, Some, None, IfOk, IsTrue};
 ghost use Rattle.std.specs.Result.{result_err};
-ghost use Rattle.wdt_units.specs.Blocks.{are_rising, HaveSameBlocks};
+ghost use Rattle.wdt_claims.specs.Blocks.{are_rising, HaveSameBlocks};
 ghost use Rattle.wdt_rest.specs.RestOf.{rest_of};
 ghost use Rattle.wdt_sender_fsm.specs.Chunks.{refusal, unordered_at};
 ghost use Rattle.wdt_yard.specs.End.{AreOf};

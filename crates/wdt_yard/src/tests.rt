@@ -25,15 +25,23 @@ fn letter_of(act: &SendAct) -> u8 {
     }
 }
 
-// The inputs of the table.
+// The inputs of the table, a letter each: S Start, L Linked, N NoLink, W Wrote, X Lost, B Bad, T and F
+// SourceLost before and in a block, V Starved. Then a frame that is read: s Settings, g Greeting,
+// c Chunks, z Size, b Block, d Done, w Wait, e ErrMarks, a Abort.
 const INPUTS: &[u8; 18] = b"SLNWXBTFVsgczbdwea";
 
 type Row<'a> = (SendState, &'a [u8; 10], &'a [u8; 71], &'a [u8; 71]);
 
-// Each state, and a way to it. Then for each input the next state's place in the list, the act and the
-// number of entries: first on an end that hasn't failed, where the state is one of such an end, and
-// then on one that has.
+// Each state, and the inputs that lead to it. Then a line of cells, one for each input, of an end that
+// hasn't failed, where the state is one of such an end, and a line of an end that has.
+//
+// A cell is the state behind the step, by its place below, the act, and how many entries are noted. So
+// `0D1` is: the lane dials again (state 0, act Dial), and one entry says so. The states: 0 Connect,
+// 1 SendSettings, 2 ReadLocalCheckpoint, 3 ReadFileChunks, 4 SendSize, 5 SendBlocks, 6 SendDone,
+// 7 ReadReceiverCmd, 8 AnswerDone, 9 SendAbort, a Ended. The acts: D Dial, W Write of any frame but
+// Abort, A Write of Abort, B SendBlock, R Read, S Stop.
 const TABLE: [Row<'_>; 11] = [
+    //   S   L   N   W   X   B   T   F   V   s   g   c   z   b   d   w   e   a
     (
         SendState::Connect,
         b"S.........",

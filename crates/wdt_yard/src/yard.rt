@@ -3,7 +3,7 @@ ghost use Rattle.std.specs.Prelude.{◌≡◌, ◌↔◌, ◌<◌, ◌≤◌, �
 ghost use Rattle.std.specs.List.{Contains};
 ghost use Rattle.wdt_units.specs.declared.blocks.Block.{Block as PlainBlock};
 ghost use Rattle.wdt_units.specs.declared.numbers.Lane.{Lane as PlainLane};
-ghost use Rattle.wdt_units.specs.declared.place.Place.TheVariants.{Confirmed};
+ghost use Rattle.wdt_claims.specs.declared.place.Place.TheVariants.{Confirmed};
 ghost use Rattle.wdt_sender_fsm.specs.declared.answers.EndAnswer.TheVariants as answers;
 ghost use Rattle.wdt_sender_fsm.specs.declared.peers.PeerKind.{PeerKind};
 ghost use Rattle.wdt_sender_fsm.specs.Causes.{Follows, HasNoLane, RefusesRightly, has_all_done};
@@ -14,6 +14,7 @@ ghost use Rattle.wdt_sender_fsm.specs.Rules.{is_failure};
 ghost use Rattle.wdt_sender_fsm.specs.SenderHistory.{end_of};
 ghost use Rattle.wdt_sender_fsm.specs.Stops.{is_stop, is_through, stops};
 ghost use Rattle.wdt_sender_fsm.specs.Turn.{send_turn};
+ghost use Rattle.wdt_sender_fsm.specs.Writes.{FitsAct, IsLawful};
 ghost use Rattle.wdt_yard.specs.Turns.{takes_no_memory};
 
 use crate::end::SendEnd;
@@ -59,16 +60,19 @@ impl Yard {
         requires few_lanes { lanes ≤ 16 }
         requires some_bytes { 1 ≤ block }
         requires limit { block ≤ 67108864 }
-        ensures { IfOk result (λ yard. yard ≡ opened manifest block session (replicate lanes new_lane)) }
+        ensures opened { IfOk result (λ yard. yard ≡ opened manifest block session (replicate lanes new_lane)) }
+        ensures lawful { IfOk result (λ yard. IsSender yard) }
+        ensures limits { IfOk result (λ yard. IsLawful yard) }
     {
         // The law: an end that begins is a sender's.
         senders_stay_senders();
+        let _count = manifest.count();
         let end = SendEnd::new(alloc, manifest, lanes, block, session)?;
         Ok(Yard { end })
     }
 
     /// A step of a lane, which is handed what lies in the ranges of the grammar: the act and the plain
-    /// sender behind it are the definition's. `Err` is want of memory: it hands the input back, and
+    /// sender behind it are the definition's, and the act lies in the grammar's ranges, too. `Err` is want of memory: it hands the input back, and
     /// nothing has changed. A step that notes nothing takes no memory, so `Starved` is never handed
     /// back.
     ///
@@ -80,6 +84,7 @@ impl Yard {
         ensures ok { IfOk result (λ act. send_turn self.old lane put ≡ (act, self.new)) }
         ensures err { IfErr result (λ back. (back ≡ put) × (self.new ≡ self.old)) }
         ensures free { OnErr result (takes_no_memory self.old lane.0 (row_of (state_at self.old lane.0) put) ≡ false) }
+        ensures act { IfOk result (λ act. FitsAct self.old.manifest act) }
         ensures lanes { length self.new.lanes ≡ length self.old.lanes }
         ensures stops { IfOk result (λ act. is_stop act ≡ stops (state_at self.old lane.0) put (is_through self.new lane.0) (is_failure self.new.answer)) }
         ensures follows { IfOk result (λ _. Follows self.old lane put self.new) }
@@ -88,6 +93,7 @@ impl Yard {
         ensures places { HasPlaces self.new }
         ensures was { IsSender self.old }
         ensures lawful { IsSender self.new }
+        ensures limits { IsLawful self.new }
     {
         // The laws: the end stays a sender's and has as many lanes as before, and why a step answers so.
         senders_stay_senders();
@@ -101,10 +107,11 @@ impl Yard {
         }
     }
 
-    /// All that happened, in order. It is a sender's history.
+    /// All that happened, in order. It is the history of a sender within the limits.
     pub fn history(&self) -> &[SendEvent]
         ensures value { result.now ≡ self.now.history }
         ensures lawful { IsSender self.now }
+        ensures limits { IsLawful self.now }
     {
         self.end.history()
     }

@@ -1,5 +1,5 @@
 use Rattle.std.proofs.Common.{refl, arith}
-use Rattle.wdt_units.proofs.Lawful.{lawful-is}
+use Rattle.wdt_units.proofs.Shared.{lawful-is}
 use Rattle.wdt_good.specs.Good.{log_path}
 use Rattle.wdt_cli.proofs.stored.stored_bytes.Goals as goal
 

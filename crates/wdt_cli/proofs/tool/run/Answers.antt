@@ -2,7 +2,7 @@ use Rattle.std.proofs.Common.{sym, subst}
 use Rattle.std.specs.Prelude.{IfSome}
 use Rattle.wdt_units.specs.Counts.{Stands}
 use Rattle.wdt_sender_fsm.specs.declared.answers.RefusedKind.{RefusedKind}
-use Rattle.wdt_cli.specs.declared.command.Command.{Command}
+use Rattle.wdt_words.specs.declared.command.Command.{Command}
 use Rattle.wdt_cli.specs.Refusals.{grounds_of, IsRefusedFor}
 use Rattle.wdt_rehearsal.specs.Causes.{RefusesRun}
 use Rattle.wdt_cli.proofs.Refused.{plan-refuses}

@@ -1,6 +1,6 @@
 use Rattle.std.proofs.Common.{◌≡◌, ◌-◌, get_or, sym, ◌∙◌, arith}
 use Rattle.wdt_units.specs.Scan.{next}
-use Rattle.wdt_units.proofs.PathBytes.{within_goes, within_stops}
+use Rattle.wdt_units.proofs.Shared.{within_goes, within_stops}
 use Rattle.wdt_codec.proofs.PathField.{path-short, path-bad, path-goes, path-done, path-starts}
 use Rattle.wdt_codec.proofs.paths.scan_path.Goals as goal
 

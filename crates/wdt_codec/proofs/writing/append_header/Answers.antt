@@ -1,7 +1,7 @@
 use Rattle.std.proofs.Common.{◌≡◌, ℕ, List, ◌∷◌, ◌++◌, length, ◌∙◌, ap, arith}
 use Rattle.byteorder.specs.Endian.{big_bytes}
 use Rattle.wdt_units.specs.declared.blocks.Header.{Header}
-use Rattle.wdt_units.proofs.Lawful.{lawful}
+use Rattle.wdt_units.proofs.Shared.{lawful}
 use Rattle.wdt_codec.specs.Frames.{spell_header}
 use Rattle.wdt_codec.proofs.writing.append_header.Goals as goal
 

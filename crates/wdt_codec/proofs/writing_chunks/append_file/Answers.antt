@@ -1,9 +1,7 @@
-use Rattle.std.proofs.Common.{◌≡◌, ℕ, List, ◌++◌, length, sym, ◌∙◌, ap, append_assoc}
-use Rattle.std.proofs.lemmas.List.{length-map}
+use Rattle.std.proofs.Common.{◌≡◌, ℕ, List, ◌++◌, length, ◌∙◌, ap, append_assoc}
 use Rattle.byteorder.specs.Endian.{big_bytes}
 use Rattle.wdt_units.specs.Have.{HaveFile}
 use Rattle.wdt_ranges.specs.Files.{have_file}
-use Rattle.wdt_ranges.specs.Spans.{plain_span}
 use Rattle.wdt_codec.specs.Chunks.{spell_spans, spell_file}
 use Rattle.wdt_codec.proofs.Failing.{on-ok}
 use Rattle.wdt_codec.proofs.writing_chunks.append_file.Goals as goal
@@ -22,9 +20,7 @@ joined old mid new front path back f m fr p b e =
 pub returns-clause-spelled : goal.returns-clause-spelled
 returns-clause-spelled c =
     let f = have_file c.args.file.now in
-    let s = c.spans-spans.ensures.spans in
-    let n : length c.spans-spans.result.now ≡ length f.spans = sym (length-map c.spans-spans.result.now plain_span) ∙ ap length s in
     on-ok c.append_spans.result
     (λ e. joined c.args.into.now.items c.append_all.new.into.items c.append_spans.new.into.items c.length_text.result c.bytes-path.result.now c.file_text.result f c.in_ok-append_all.ensures.spelled c.length_text.ensures c.bytes-path.ensures.value
-    (c.file_text.ensures ∙ ap (λ k. big_bytes 8 f.size ++ (big_bytes 8 f.stamp ++ big_bytes 4 k)) n) (e ∙ ap (λ w. c.append_all.new.into.items ++ spell_spans w) s))
+    (c.file_text.ensures ∙ ap (λ k. big_bytes 8 f.size ++ (big_bytes 8 f.stamp ++ big_bytes 4 k)) c.count.ensures.count) (e ∙ ap (λ w. c.append_all.new.into.items ++ spell_spans w) c.spans.ensures))
     c.append_spans.ensures.spelled

@@ -1,8 +1,9 @@
-use Rattle.std.proofs.Common.{map}
-use Rattle.wdt_codec.specs.Chunks.{spell_span}
-use Rattle.wdt_ranges.specs.Spans.{plain_span}
-use Rattle.wdt_codec.proofs.Appending.{Appended}
+use Rattle.std.proofs.Common.{◌≡◌, ◌++◌, length, take}
+use Rattle.wdt_codec.specs.Chunks.{spell_spans}
 use Rattle.wdt_codec.proofs.writing_chunks.append_spans.Given as goal
 
 abbrev pub invariant-loop-span : goal.invariant-loop-span
-invariant-loop-span l = Appended spell_span l.initial.into.items (map plain_span l.spans) l.span-index l.into.items
+invariant-loop-span l = record {
+  so_far : l.into.items ++ spell_spans l.span-iterator ≡ l.fn.into.items ++ spell_spans l.fn.spans;
+  begun : take (length l.fn.into.items) l.into.items ≡ l.fn.into.items;
+}

@@ -1,4 +1,4 @@
-use Rattle.wdt_discover.proofs.Least.{least_is_refused}
+use Rattle.wdt_discover.proofs.lemmas.Least.{least_is_refused}
 use Rattle.wdt_discover.proofs.laws.the_least_is_refused.Goals as goal
 
 pub returns : goal.returns

@@ -1,5 +1,5 @@
 use Rattle.std.proofs.Common.{refl}
-use Rattle.wdt_discover.proofs.Counting.{count_none, count_more, ends_within}
+use Rattle.wdt_discover.proofs.lemmas.Counting.{count_none, count_more, ends_within}
 use Rattle.wdt_discover.proofs.pieces.count_pieces.Goals as goal
 
 pub loop-gap-init : goal.loop-gap-init

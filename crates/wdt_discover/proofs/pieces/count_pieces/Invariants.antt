@@ -1,4 +1,4 @@
-use Rattle.wdt_discover.proofs.Counting.{IsCounted}
+use Rattle.wdt_discover.proofs.lemmas.Counting.{IsCounted}
 use Rattle.wdt_discover.proofs.pieces.count_pieces.Given as goal
 
 abbrev pub invariant-loop-gap : goal.invariant-loop-gap

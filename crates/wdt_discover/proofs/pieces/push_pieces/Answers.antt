@@ -1,4 +1,4 @@
-use Rattle.wdt_discover.proofs.Counting.{ends_within}
+use Rattle.wdt_discover.proofs.lemmas.Counting.{ends_within}
 use Rattle.wdt_discover.proofs.pieces.push_pieces.Goals as goal
 
 pub push_gap-requires-clause-end : goal.push_gap-requires-clause-end

@@ -1,4 +1,4 @@
-use Rattle.wdt_discover.proofs.Counting.{IsListed}
+use Rattle.wdt_discover.proofs.lemmas.Counting.{IsListed}
 use Rattle.wdt_discover.proofs.pieces.push_pieces.Given as goal
 
 abbrev pub invariant-loop-gap : goal.invariant-loop-gap

@@ -1,6 +1,6 @@
 use Rattle.std.proofs.Common.{map}
 use Rattle.wdt_ranges.specs.Files.{have_file}
-use Rattle.wdt_discover.proofs.Counting.{walk_more}
+use Rattle.wdt_discover.proofs.lemmas.Counting.{walk_more}
 use Rattle.wdt_discover.proofs.rest.list_rest.Goals as goal
 
 pub loop-at-preserved : goal.loop-at-preserved

@@ -5,7 +5,7 @@ use Rattle.std.proofs.lemmas.Cmp.{nat_list_cmp_total}
 use Rattle.std.proofs.lemmas.Fn.{always_returns_same}
 use Rattle.std.proofs.lemmas.List.Sorted.{searchable_from_sorted}
 use Rattle.wdt_ranges.specs.declared.have.FileHave.{FileHave}
-use Rattle.wdt_discover.proofs.Naming.{path_of, sorted_from, search_finds, search_names, search_misses}
+use Rattle.wdt_discover.proofs.lemmas.Naming.{path_of, sorted_from, search_finds, search_names, search_misses}
 use Rattle.wdt_discover.proofs.rest.named.Goals as goal
 
 pub returns-in-Ok-clause-named : goal.returns-in-Ok-clause-named

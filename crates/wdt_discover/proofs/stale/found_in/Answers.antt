@@ -1,5 +1,5 @@
 use Rattle.std.proofs.Common.{sym}
-use Rattle.wdt_discover.proofs.Finding.{within, found_here, found_nowhere}
+use Rattle.wdt_discover.proofs.lemmas.Finding.{within, found_here, found_nowhere}
 use Rattle.wdt_discover.proofs.stale.found_in.Goals as goal
 
 pub entry-entry-requires : goal.entry-entry-requires

@@ -1,10 +1,10 @@
 use Rattle.std.proofs.Common.{◌≡◌, List, [], replicate, ap, ◌∙◌, arith}
 use Rattle.wdt_units.specs.declared.blocks.Block.{Block}
-use Rattle.wdt_units.specs.Blocks.{count_of}
-use Rattle.wdt_units.specs.LaneWords.{Claims, claimed, no_claims, sent}
-use Rattle.wdt_units.proofs.BlockCounts.{count_of-append, count_of-nil}
-use Rattle.wdt_units.specs.Checks.{goes_back}
-use Rattle.wdt_units.specs.Claimed.{count_kept, lane_at, with_lane}
+use Rattle.wdt_claims.specs.Blocks.{count_of}
+use Rattle.wdt_claims.specs.LaneWords.{Claims, claimed, no_claims, sent}
+use Rattle.wdt_claims.proofs.Shared.{count_of-append, count_of-nil}
+use Rattle.wdt_claims.specs.Checks.{goes_back}
+use Rattle.wdt_claims.specs.Claimed.{count_kept, lane_at, with_lane}
 use Rattle.wdt_history.specs.Slots.{Book}
 use Rattle.wdt_history.proofs.Keeps.{count_kept-none}
 use Rattle.wdt_history.proofs.tests.a_block_comes_home.Goals as goal

@@ -1,5 +1,5 @@
 use Rattle.wdt_ranges.specs.Spans.{plain_span}
-use Rattle.wdt_logfmt.proofs.Spans.{with_span-is}
+use Rattle.wdt_logfmt.proofs.ForCallers.{with_span-is}
 use Rattle.wdt_log.proofs.Adding.{have_is}
 use Rattle.wdt_log.proofs.extending.cover_file.Goals as goal
 

@@ -3,7 +3,7 @@ use Rattle.wdt_logfmt.specs.declared.view.LogFile.{LogFile}
 use Rattle.wdt_logfmt.specs.View.{named_files}
 use Rattle.wdt_log.specs.Places.{IsPlace}
 use Rattle.wdt_log.specs.Touched.{numbered}
-use Rattle.wdt_log.proofs.Laying.{IsTakenUp, others_there, taken_up}
+use Rattle.wdt_log.proofs.Laying.{others_there, taken_up}
 use Rattle.wdt_log.proofs.extending.take_up.Goals as goal
 
 pub copy_of-requires-clause-there : goal.copy_of-requires-clause-there

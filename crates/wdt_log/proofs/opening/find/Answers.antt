@@ -1,15 +1,14 @@
-use Rattle.std.proofs.Common.{◌≡◌, ◌∙◌, None, Ok, Some, ap, arith, sym, subst}
+use Rattle.std.proofs.Common.{◌≡◌, ◌∙◌, None, Some, ap, arith, sym, subst}
 use Rattle.std.specs.Prelude.{MatchOption}
 use Rattle.wdt_depot.specs.Disk.{seen_of, synced_at}
 use Rattle.wdt_depot.specs.Moments.{IfTold, Run}
 use Rattle.wdt_logfmt.specs.Meaning.{log_meaning}
 use Rattle.wdt_logfmt.specs.View.{Meaning, is_view, meaning_of}
-use Rattle.wdt_logfmt.proofs.Views.{view_none}
+use Rattle.wdt_logfmt.proofs.ForCallers.{view_none}
 use Rattle.wdt_good.specs.Good.{log_path}
-use Rattle.wdt_good.specs.LogState.{LogOf}
 use Rattle.wdt_log.specs.Opening.{IsMaking, IsSyncing, Makes}
 use Rattle.wdt_log.proofs.Alone.{making_stands, syncing_stands}
-use Rattle.wdt_log.proofs.Making.{end_within, found_rests, if_ok_more, made_logged, made_since, synced_since}
+use Rattle.wdt_log.proofs.Making.{end_within, found_rests, found_says, if_ok_more, made_logged, made_since, none_says, synced_since}
 use Rattle.wdt_log.proofs.opening.find.Goals as goal
 
 pub returns-in_err-found-clause-images : goal.returns-in_err-found-clause-images
@@ -72,3 +71,15 @@ returns-in-None-clause-logged g c =
 
 pub returns-in-None-clause-view : goal.returns-in-None-clause-view
 returns-in-None-clause-view g c = if_ok_more c.make.result _ _ c.make.ensures.view (λ view is. ap (λ (m : Meaning). is_view m.files) is ∙ view_none)
+
+pub returns-in_ok-view-in-Some-clause-says : goal.returns-in_ok-view-in-Some-clause-says
+returns-in_ok-view-in-Some-clause-says g c =
+    let t0 = (g.D.Depot.state c.args.depot.now).told in
+    let reads = subst (λ o. IfTold (λ t. MatchOption o (t.now log_path ≡ None) (λ bytes. seen_of t.now log_path ≡ Some bytes.items)) t0) c.in-Some.is c.in_ok-found.ensures.bytes in
+    found_says c.in-Some.bytes.items (meaning_of c.in_ok-view-in-Some.view) t0 (ap log_meaning (sym c.deref.ensures.value) ∙ c.in_ok-view-in-Some.ensures.meaning) reads
+
+pub returns-in-None-clause-says : goal.returns-in-None-clause-says
+returns-in-None-clause-says g c =
+    let t0 = (g.D.Depot.state c.args.depot.now).told in
+    let none = subst (λ o. IfTold (λ t. MatchOption o (t.now log_path ≡ None) (λ bytes. seen_of t.now log_path ≡ Some bytes.items)) t0) c.in-None.is c.in_ok-found.ensures.bytes in
+    if_ok_more c.make.result _ _ c.make.ensures.view (λ view is. none_says (meaning_of view) t0 is none)

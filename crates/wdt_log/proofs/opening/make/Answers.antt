@@ -1,8 +1,8 @@
 use Rattle.std.proofs.Common.{◌∙◌, ap, refl}
 use Rattle.wdt_depot.specs.State.{State, at_spot}
-use Rattle.wdt_depot.proofs.Moments.{run_same}
+use Rattle.wdt_depot.proofs.ForCallers.{at_needed, run_same}
 use Rattle.wdt_log.proofs.Alone.{needed_stands}
-use Rattle.wdt_log.proofs.Making.{at_needed, is_made, is_placed, made_only, make_fails, makes_err, place_fails, put_fails, put_whole}
+use Rattle.wdt_log.proofs.Making.{is_made, is_placed, made_only, make_fails, makes_err, place_fails, put_fails, put_whole}
 use Rattle.wdt_log.proofs.opening.make.Goals as goal
 
 pub returns-in_err-make-clause-moments : goal.returns-in_err-make-clause-moments
@@ -21,7 +21,7 @@ returns-in_err-result-clause-moments g c =
     let s0 = g.D.Depot.state c.args.depot.now in
     let s1 = g.D.Depot.state c.make.new.self in
     let s2 = g.D.Depot.state c.need.new.self in
-    let s3 = g.D.Depot.state c.put-result.new.depot in
+    let s3 = g.D.Depot.state c.put_synced-result.new.depot in
     let at = at_needed c.in_ok-spot.spot.0 c.args.new.now s1 s2 (c.make.ensures.spots ∙ c.requires.spots) c.in_ok-spot.ensures.spots ∙ c.requires.new_path in
     let run = run_same _ _ s0.told s1.told s2.told (is_made c.in_ok-make.field-0 _ s0.told s1.told c.requires.new_path c.in_ok-make.ensures.step) c.need.ensures.looks.told in
     makes_err c.from_residual-in_err-result.result _ s0.told _ c.from_residual-in_err-result.ensures.1
@@ -32,7 +32,7 @@ returns-in_err-put_in_place-clause-moments g c =
     let s0 = g.D.Depot.state c.args.depot.now in
     let s1 = g.D.Depot.state c.make.new.self in
     let s2 = g.D.Depot.state c.need.new.self in
-    let s3 = g.D.Depot.state c.put-result.new.depot in
+    let s3 = g.D.Depot.state c.put_synced-result.new.depot in
     let s4 = g.D.Depot.state c.leave.new.self in
     let at = at_needed c.in_ok-spot.spot.0 c.args.new.now s1 s2 (c.make.ensures.spots ∙ c.requires.spots) c.in_ok-spot.ensures.spots ∙ c.requires.new_path in
     let run = run_same _ _ s0.told s1.told s2.told (is_made c.in_ok-make.field-0 _ s0.told s1.told c.requires.new_path c.in_ok-make.ensures.step) c.need.ensures.looks.told in
@@ -45,7 +45,7 @@ returns-clause-moments g c =
     let s0 = g.D.Depot.state c.args.depot.now in
     let s1 = g.D.Depot.state c.make.new.self in
     let s2 = g.D.Depot.state c.need.new.self in
-    let s3 = g.D.Depot.state c.put-result.new.depot in
+    let s3 = g.D.Depot.state c.put_synced-result.new.depot in
     let s4 = g.D.Depot.state c.leave.new.self in
     let at = at_needed c.in_ok-spot.spot.0 c.args.new.now s1 s2 (c.make.ensures.spots ∙ c.requires.spots) c.in_ok-spot.ensures.spots ∙ c.requires.new_path in
     let run = run_same _ _ s0.told s1.told s2.told (is_made c.in_ok-make.field-0 _ s0.told s1.told c.requires.new_path c.in_ok-make.ensures.step) c.need.ensures.looks.told in

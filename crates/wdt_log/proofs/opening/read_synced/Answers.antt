@@ -2,9 +2,8 @@ use Rattle.std.proofs.Common.{◌≡◌, subst}
 use Rattle.wdt_depot.specs.Disk.{IfFile}
 use Rattle.wdt_depot.specs.Moments.{IfTold}
 use Rattle.wdt_depot.specs.State.{at_spot}
-use Rattle.wdt_depot.proofs.Moments.{run_same}
+use Rattle.wdt_depot.proofs.ForCallers.{run_same, spot_stays}
 use Rattle.wdt_log.proofs.Making.{read_before, synced_there, syncs_as}
-use Rattle.wdt_log.proofs.Steps.{spot_stays}
 use Rattle.wdt_log.proofs.opening.read_synced.Goals as goal
 
 pub returns-clause-bytes : goal.returns-clause-bytes

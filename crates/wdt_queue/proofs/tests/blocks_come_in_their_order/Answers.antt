@@ -1,7 +1,6 @@
 use Rattle.std.proofs.Common.{refl, sym, ap, subst, arith}
-use Rattle.wdt_units.specs.Blocks.{AreDistinct, count_of}
-use Rattle.wdt_units.proofs.BlockOrder.{same_itself}
-use Rattle.wdt_units.proofs.BlockCounts.{count_of-cons, one_if-true, rising_distinct}
+use Rattle.wdt_claims.specs.Blocks.{AreDistinct, count_of}
+use Rattle.wdt_claims.proofs.Shared.{same_itself, count_of-cons, one_if-true, rising_distinct}
 use Rattle.wdt_queue.proofs.tests.blocks_come_in_their_order.Goals as goal
 
 pub of-requires-clause-distinct : goal.of-requires-clause-distinct

@@ -1,4 +1,4 @@
-use Rattle.wdt_rest.proofs.Whole.{list_is_rest}
+use Rattle.wdt_rest.proofs.lemmas.Whole.{list_is_rest}
 use Rattle.wdt_rest.proofs.laws.the_rest_as_a_list.Goals as goal
 
 pub returns : goal.returns

@@ -2,7 +2,7 @@ use Rattle.std.proofs.Common.{◌≡◌, ℕ, length, map, Some, sym, ap, ◌∙
 use Rattle.std.proofs.lemmas.Bool.{cases_lt}
 use Rattle.std.proofs.lemmas.List.{length-map}
 use Rattle.wdt_ranges.specs.Files.{have_file}
-use Rattle.wdt_sender_fsm.proofs.Compares.{differ_here, differ_longer, differ_none, differ_on, differ_shorter, same_files}
+use Rattle.wdt_sender_fsm.proofs.lemmas.Compares.{differ_here, differ_longer, differ_none, differ_on, differ_shorter, same_files}
 use Rattle.wdt_sender_fsm.proofs.comparing.different_at.Goals as goal
 
 pub returns-then-not-is_same_file : goal.returns-then-not-is_same_file

@@ -1,6 +1,6 @@
-use Rattle.wdt_sender_fsm.proofs.Noted.{abort_noted, noted_abort, noted_peer, peer_noted}
-use Rattle.wdt_sender_fsm.proofs.Outcomes.{done_means, link_means, means_done, means_link, refuses}
-use Rattle.wdt_sender_fsm.proofs.Refusing.{refuses_rightly}
+use Rattle.wdt_sender_fsm.proofs.lemmas.Noted.{abort_noted, noted_abort, noted_peer, peer_noted}
+use Rattle.wdt_sender_fsm.proofs.lemmas.Outcomes.{done_means, link_means, means_done, means_link, refuses}
+use Rattle.wdt_sender_fsm.proofs.lemmas.Refusing.{refuses_rightly}
 use Rattle.wdt_sender_fsm.proofs.keeping.answers_have_their_causes.Goals as goal
 
 pub returns-clause-done : goal.returns-clause-done

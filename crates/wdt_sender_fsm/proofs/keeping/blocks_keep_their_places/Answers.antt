@@ -1,4 +1,4 @@
-use Rattle.wdt_sender_fsm.proofs.Places.{places, turn_confirmed}
+use Rattle.wdt_sender_fsm.proofs.lemmas.Places.{places, turn_confirmed}
 use Rattle.wdt_sender_fsm.proofs.keeping.blocks_keep_their_places.Goals as goal
 
 pub returns-clause-places : goal.returns-clause-places

@@ -1,5 +1,5 @@
-use Rattle.wdt_sender_fsm.proofs.Runs.{run_legal}
-use Rattle.wdt_sender_fsm.proofs.Turns.{opens, turn_keeps}
+use Rattle.wdt_sender_fsm.proofs.lemmas.Runs.{run_legal}
+use Rattle.wdt_sender_fsm.proofs.lemmas.Turns.{opens, turn_keeps}
 use Rattle.wdt_sender_fsm.proofs.keeping.senders_stay_senders.Goals as goal
 
 pub returns-clause-opens : goal.returns-clause-opens

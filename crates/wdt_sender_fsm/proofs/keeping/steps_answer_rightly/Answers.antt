@@ -1,4 +1,4 @@
-use Rattle.wdt_sender_fsm.proofs.Stopping.{turn_right}
+use Rattle.wdt_sender_fsm.proofs.lemmas.Stopping.{turn_right}
 use Rattle.wdt_sender_fsm.proofs.keeping.steps_answer_rightly.Goals as goal
 
 pub returns-clause-stops : goal.returns-clause-stops

@@ -1,5 +1,5 @@
-use Rattle.wdt_sender_fsm.proofs.Speaks.{turn_fits}
-use Rattle.wdt_sender_fsm.proofs.Stands.{turn_stands, heard_is_named}
+use Rattle.wdt_sender_fsm.proofs.lemmas.HeldActs.{turn_fits}
+use Rattle.wdt_sender_fsm.proofs.lemmas.Stands.{turn_stands, heard_is_named}
 use Rattle.wdt_sender_fsm.proofs.laws.a_sender_speaks_in_turn.Goals as goal
 
 pub returns-clause-writes : goal.returns-clause-writes

@@ -1,4 +1,4 @@
-use Rattle.wdt_sender_fsm.proofs.Claimed.{claims_length, claims_at, claims_none, claims_greet, claims_claim, claims_sent, claims_global, claims_finish, claims_stay}
+use Rattle.wdt_sender_fsm.proofs.lemmas.Claimed.{claims_length, claims_at, claims_none, claims_greet, claims_claim, claims_sent, claims_global, claims_finish, claims_stay}
 use Rattle.wdt_sender_fsm.proofs.laws.claims_follow_the_history.Goals as goal
 
 pub returns-clause-lanes : goal.returns-clause-lanes

@@ -1,7 +1,7 @@
 use Rattle.std.specs.Prelude.{[], ◌∷◌, ◌++◌}
 use Rattle.wdt_sender_fsm.specs.Phases.{down, up}
-use Rattle.wdt_sender_fsm.proofs.Phases.{one_talker}
-use Rattle.wdt_sender_fsm.proofs.Talk.{says, hears, turned, turned_talker}
+use Rattle.wdt_sender_fsm.proofs.lemmas.Phases.{one_talker}
+use Rattle.wdt_sender_fsm.proofs.lemmas.Talk.{says, hears, turned, turned_talker}
 use Rattle.wdt_sender_fsm.proofs.laws.ends_speak_in_turn.Goals as goal
 
 pub returns-clause-one_talker : goal.returns-clause-one_talker

@@ -1,7 +1,7 @@
 use Rattle.std.proofs.Common.{◌≡◌, List, subst, None}
 use Rattle.wdt_units.specs.Have.{HaveFile}
 use Rattle.wdt_sender_fsm.specs.Chunks.{different_at}
-use Rattle.wdt_sender_fsm.proofs.Lists.{ordered, orders, no_difference, same_lists}
+use Rattle.wdt_sender_fsm.proofs.lemmas.Lists.{ordered, orders, no_difference, same_lists}
 use Rattle.wdt_sender_fsm.proofs.laws.file_lists_are_compared.Goals as goal
 
 pub returns-clause-ordered : goal.returns-clause-ordered

@@ -1,4 +1,4 @@
-use Rattle.wdt_sender_fsm.proofs.Worked.{greeted_wrongly, greeted_rightly, finished_early, finished_before_a_plan, took_over}
+use Rattle.wdt_sender_fsm.proofs.lemmas.Worked.{greeted_wrongly, greeted_rightly, finished_early, finished_before_a_plan, took_over}
 use Rattle.wdt_sender_fsm.proofs.laws.worked_steps.Goals as goal
 
 pub returns-clause-greeted_wrongly : goal.returns-clause-greeted_wrongly

@@ -6,7 +6,7 @@ use Rattle.std.specs.Str.{bytes_eq}
 use Rattle.std.proofs.lemmas.Bool.{not-true}
 use Rattle.std.proofs.lemmas.Map.Text.{is_eq-slice_cmp}
 use Rattle.std.proofs.lemmas.Option.{slice_get_read}
-use Rattle.wdt_tree.proofs.Doubles.{walk_more}
+use Rattle.wdt_tree.proofs.lemmas.Doubles.{walk_more}
 use Rattle.wdt_tree.proofs.manifest.first_double.Goals as goal
 
 pub loop-entry-preserved : goal.loop-entry-preserved

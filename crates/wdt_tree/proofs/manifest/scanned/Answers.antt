@@ -3,7 +3,7 @@ use Rattle.std.proofs.lemmas.List.{length-map}
 use Rattle.wdt_tree.specs.declared.entry.Entry.{Entry}
 use Rattle.wdt_tree.specs.declared.manifest.ManifestFail.TheVariants.{NoMemory}
 use Rattle.wdt_tree.specs.Listing.{entry_of, IsFirstFault}
-use Rattle.wdt_tree.proofs.Scan.{IsScan, scan_more, first_fault, listed}
+use Rattle.wdt_tree.proofs.lemmas.Scan.{IsScan, scan_more, first_fault, listed}
 use Rattle.wdt_tree.proofs.manifest.scanned.Goals as goal
 
 pub returns-in_err-entry-clause-fault : goal.returns-in_err-entry-clause-fault

@@ -1,8 +1,8 @@
 use Rattle.std.proofs.Common.{◌-◌, length, get_or, sym, ◌∙◌, arith}
 use Rattle.std.proofs.lemmas.Bool.{eqb-true, eqb-false}
 use Rattle.wdt_units.specs.Scan.{next}
-use Rattle.wdt_units.proofs.Lawful.{lawful-is, unlawful-is}
-use Rattle.wdt_units.proofs.PathBytes.{within_goes, within_stops, turn-stops, turn-goes, turn-comes, turn-done}
+use Rattle.wdt_units.proofs.lemmas.Lawful.{lawful-is, unlawful-is}
+use Rattle.wdt_units.proofs.lemmas.PathBytes.{within_goes, within_stops, turn-stops, turn-goes, turn-comes, turn-done}
 use Rattle.wdt_units.proofs.path.is_lawful.Goals as goal
 
 pub returns-then-is_empty : goal.returns-then-is_empty

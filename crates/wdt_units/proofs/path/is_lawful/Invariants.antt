@@ -1,6 +1,6 @@
 use Rattle.std.proofs.Common.{◌-◌, length, drop}
 use Rattle.wdt_units.specs.declared.scan.PathScan.TheVariants.{Start}
-use Rattle.wdt_units.proofs.PathBytes.{Ends}
+use Rattle.wdt_units.proofs.lemmas.PathBytes.{Ends}
 use Rattle.wdt_units.proofs.path.is_lawful.Given as goal
 
 abbrev pub invariant-loop-k : goal.invariant-loop-k

@@ -1,5 +1,4 @@
-use Rattle.wdt_sender_fsm.proofs.Counts.{plan_rises}
-use Rattle.wdt_sender_fsm.proofs.Lists.{ordered}
+use Rattle.wdt_sender_fsm.proofs.Shared.{plan_rises, ordered}
 use Rattle.wdt_yard.proofs.Plans.{rest_files}
 use Rattle.wdt_yard.proofs.planning.plan_for.Goals as goal
 

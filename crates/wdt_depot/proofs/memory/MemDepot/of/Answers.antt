@@ -3,7 +3,7 @@ use Rattle.std.proofs.lemmas.List.{nil_from_length}
 use Rattle.std.specs.Prelude.{option_map}
 use Rattle.wdt_units.specs.Tree.{File}
 use Rattle.wdt_tree.specs.Shown.{shown}
-use Rattle.wdt_depot.specs.declared.store.Store.{Store}
+use Rattle.wdt_depot.specs.declared.memory.store.Store.{Store}
 use Rattle.wdt_depot.specs.Disk.{Disk}
 use Rattle.wdt_depot.specs.Memory.{shelf_of, told_in}
 use Rattle.wdt_depot.specs.Plains.{empty_disk, plain_disk}
@@ -30,4 +30,4 @@ returns c =
     let none : c.loop-file.left.items ≡ [] = nil_from_length c.loop-file.left.items (omega (arith, c.in_default.ensures.cases, c.loop-file.left.ok.0)) in
     let all : inv.0 ≡ map shown c.args.files.items = sym (inv.1 ∙ ap {A = List (_)} {B = List File} (λ l. map shown l ++ inv.0) none) in
     let told : told_in s ≡ record { past = []; now = plain_disk (map shown c.args.files.items) } = told_fresh s (plain_disk (map shown c.args.files.items)) inv.3 (inv.2 ∙ ap plain_disk all) in
-    λ j. record { told = Some (told j); stop = c.of.ensures.stop j; spots = map entered_view (c.new.ensures.items j); faults = c.of.ensures.faults j; own = c.of.ensures.own j; own_then = c.of.ensures.own_then j; slips = c.of.ensures.slips j }
+    λ j. record { told = Some (told j); stop = c.of.ensures.stop j; spots = map entered_view (c.new.ensures.items j); faults = c.of.ensures.faults j; own = c.of.ensures.own j; own_then = c.of.ensures.own_then j; slips = c.of.ensures.slips j; schedule = Some (c.of.ensures.schedule j) }

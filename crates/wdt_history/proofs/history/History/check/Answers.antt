@@ -1,5 +1,5 @@
 use Rattle.std.proofs.Common.{sym, subst, ap, ◌<◌, List, length}
-use Rattle.wdt_units.specs.LaneWords.{Claims}
+use Rattle.wdt_claims.specs.LaneWords.{Claims}
 use Rattle.wdt_history.specs.Slots.{Book}
 use Rattle.wdt_history.proofs.Slots.{lane_read, within}
 use Rattle.wdt_history.proofs.history.History.check.Goals as goal

@@ -1,6 +1,6 @@
 use Rattle.std.proofs.Common.{◌≡◌, None, map, set, sym, ap, ◌∙◌, subst, refl}
-use Rattle.wdt_units.specs.LaneWords.{claimed}
-use Rattle.wdt_units.specs.Claimed.{lane_at, with_lane, AreLanes}
+use Rattle.wdt_claims.specs.LaneWords.{claimed}
+use Rattle.wdt_claims.specs.Claimed.{lane_at, with_lane, AreLanes}
 use Rattle.wdt_history.specs.Slots.{Book, claims_in}
 use Rattle.wdt_history.proofs.Keeps.{lanes_claimed}
 use Rattle.wdt_history.proofs.Slots.{read_as, seen_as, same_book}

@@ -1,6 +1,6 @@
 use Rattle.std.proofs.Common.{◌≡◌, List, get_or, set, map, take, drop, ◌++◌, length, sym, ap, ◌∙◌, subst, arith}
-use Rattle.wdt_units.specs.LaneWords.{finished}
-use Rattle.wdt_units.specs.Claimed.{AreLanes, IsLane}
+use Rattle.wdt_claims.specs.LaneWords.{finished}
+use Rattle.wdt_claims.specs.Claimed.{AreLanes, IsLane}
 use Rattle.wdt_history.specs.Slots.{Book, Slot, IsBook, claims_in, finished_slot}
 use Rattle.wdt_history.proofs.Slots.{book_finished, finished_all, lane_in, same_book}
 use Rattle.wdt_history.proofs.Turns.{next_of, more_of, all_of}

@@ -1,11 +1,11 @@
 use Rattle.std.proofs.Common.{◌≡◌, ◌+◌, ◌++◌, List, None, is_some, map, set, drop, sym, ap, ◌∙◌, subst, refl}
-use Rattle.wdt_units.specs.Blocks.{count_of, HaveSameBlocks}
-use Rattle.wdt_units.specs.LaneWords.{Claims, closed_at}
-use Rattle.wdt_units.specs.Checks.{fault_of}
-use Rattle.wdt_units.specs.Claimed.{lane_at, with_lane, count_kept, AreLanes}
+use Rattle.wdt_claims.specs.Blocks.{count_of, HaveSameBlocks}
+use Rattle.wdt_claims.specs.LaneWords.{Claims, closed_at}
+use Rattle.wdt_claims.specs.Checks.{fault_of}
+use Rattle.wdt_claims.specs.Claimed.{lane_at, with_lane, count_kept, AreLanes}
 use Rattle.wdt_history.specs.Slots.{Book, claims_in}
 use Rattle.wdt_history.proofs.Slots.{read_as, seen_as, slot_put, same_book}
-use Rattle.wdt_units.proofs.Found.{none_of}
+use Rattle.wdt_claims.proofs.Shared.{none_of}
 use Rattle.wdt_history.proofs.Turns.{conserved, close_keeps}
 use Rattle.wdt_history.proofs.history.History.global.Goals as goal
 

@@ -1,8 +1,8 @@
 use Rattle.std.proofs.Common.{◌≡◌, ◌+◌, ◌++◌, List, None, map, set, drop, sym, ap, ◌∙◌, subst, refl}
-use Rattle.wdt_units.specs.Blocks.{count_of, HaveSameBlocks}
-use Rattle.wdt_units.specs.LaneWords.{Claims, cut_to}
-use Rattle.wdt_units.specs.Checks.{fault_of}
-use Rattle.wdt_units.specs.Claimed.{lane_at, with_lane, count_kept, AreLanes}
+use Rattle.wdt_claims.specs.Blocks.{count_of, HaveSameBlocks}
+use Rattle.wdt_claims.specs.LaneWords.{Claims, cut_to}
+use Rattle.wdt_claims.specs.Checks.{fault_of}
+use Rattle.wdt_claims.specs.Claimed.{lane_at, with_lane, count_kept, AreLanes}
 use Rattle.wdt_history.specs.Slots.{Book, claims_in}
 use Rattle.wdt_history.proofs.Slots.{read_as, seen_as, slot_put, same_book}
 use Rattle.wdt_history.proofs.Turns.{conserved, cut_keeps}

@@ -1,5 +1,5 @@
 use Rattle.std.proofs.Common.{sym, subst, arith}
-use Rattle.wdt_units.specs.Claimed.{AreLanes}
+use Rattle.wdt_claims.specs.Claimed.{AreLanes}
 use Rattle.wdt_history.proofs.Keeps.{lanes_of_none}
 use Rattle.wdt_history.proofs.history.History.of.Goals as goal
 

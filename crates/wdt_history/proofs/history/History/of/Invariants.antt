@@ -1,5 +1,5 @@
 use Rattle.std.proofs.Common.{◌≡◌, map, replicate}
-use Rattle.wdt_units.specs.LaneWords.{no_claims}
+use Rattle.wdt_claims.specs.LaneWords.{no_claims}
 use Rattle.wdt_history.specs.Slots.{claims_in}
 use Rattle.wdt_history.proofs.history.History.of.Given as goal
 

@@ -1,9 +1,9 @@
 use Rattle.std.proofs.Common.{◌≡◌, ◌+◌, ◌∷◌, List, Option, drop, map, sym, ap, ◌∙◌, subst}
 use Rattle.std.specs.Option.{unwrap_or}
 use Rattle.std.proofs.lemmas.List.{drop_all, drop_more}
-use Rattle.wdt_units.specs.Claimed.{AreLanes}
+use Rattle.wdt_claims.specs.Claimed.{AreLanes}
 use Rattle.wdt_history.specs.Slots.{Book, Slot, claims_in}
-use Rattle.wdt_units.specs.declared.place.Place.{Place}
+use Rattle.wdt_claims.specs.declared.place.Place.{Place}
 use Rattle.wdt_history.proofs.Standing.{first_place, place_from}
 use Rattle.wdt_history.proofs.history.History.place.Goals as goal
 

@@ -1,6 +1,6 @@
 use Rattle.std.proofs.Common.{◌≡◌, ◌<◌, List, length, map, set, sym, ap, ◌∙◌, subst, refl, Some}
-use Rattle.wdt_units.specs.LaneWords.{Claims}
-use Rattle.wdt_units.specs.Claimed.{AreLanes}
+use Rattle.wdt_claims.specs.LaneWords.{Claims}
+use Rattle.wdt_claims.specs.Claimed.{AreLanes}
 use Rattle.wdt_history.specs.Slots.{Book, claims_in}
 use Rattle.wdt_history.proofs.Slots.{room_made, same_claims, same_book}
 use Rattle.wdt_history.proofs.history.History.prepare.Goals as goal

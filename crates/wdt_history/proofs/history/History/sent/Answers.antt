@@ -1,6 +1,6 @@
 use Rattle.std.proofs.Common.{◌≡◌, map, set, sym, ap, ◌∙◌, subst, arith}
-use Rattle.wdt_units.specs.LaneWords.{Claims, sent}
-use Rattle.wdt_units.specs.Claimed.{lane_at, with_lane, AreLanes}
+use Rattle.wdt_claims.specs.LaneWords.{Claims, sent}
+use Rattle.wdt_claims.specs.Claimed.{lane_at, with_lane, AreLanes}
 use Rattle.wdt_history.specs.Slots.{Book, Slot, claims_in}
 use Rattle.wdt_history.proofs.Keeps.{sent_keeps}
 use Rattle.wdt_history.proofs.Slots.{read_as, seen_as, slot_put, same_book}

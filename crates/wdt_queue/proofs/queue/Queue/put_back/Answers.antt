@@ -2,7 +2,7 @@ use Rattle.std.proofs.Common.{◌≡◌, true, List, ◌∷◌, sym, ap, ◌∙�
 use Rattle.std.specs.List.{insert}
 use Rattle.std.proofs.lemmas.List.Sorted.{IsPartitionPoint-from_clause}
 use Rattle.wdt_units.specs.declared.blocks.Block.{Block}
-use Rattle.wdt_units.specs.Blocks.{precedes, are_rising, count_of}
+use Rattle.wdt_claims.specs.Blocks.{precedes, are_rising, count_of}
 use Rattle.wdt_queue.specs.Waiting.{Waiting}
 use Rattle.wdt_queue.proofs.Places.{greater_first, put_rising, put_same}
 use Rattle.wdt_queue.proofs.queue.Queue.put_back.Goals as goal

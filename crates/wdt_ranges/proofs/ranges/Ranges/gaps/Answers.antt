@@ -1,16 +1,30 @@
-use Rattle.std.proofs.Common.{◌≡◌, true, arith, map, sym, ap, ◌∙◌, subst, List}
+use Rattle.std.proofs.Common.{◌≡◌, ◌+◌, ◌∷◌, ◌++◌, min, true, arith, map, sym, ap, ◌∙◌, subst, List}
 use Rattle.std.proofs.lemmas.Grind.{common_steps}
+use Rattle.std.proofs.lemmas.List.{append_assoc}
 use Rattle.wdt_units.specs.Have.{PlainSpan}
-use Rattle.wdt_ranges.specs.declared.ranges.Span.{Span}
-use Rattle.wdt_ranges.specs.Spans.{plain_span, are_apart, has, gaps_of}
-use Rattle.wdt_ranges.proofs.Apart.{in_bounds}
+use Rattle.wdt_ranges.specs.Spans.{plain_span, end_of, are_apart, are_apart_from, has, span_between, gaps_from, gaps_of}
+use Rattle.wdt_ranges.proofs.Apart.{apart_parts, apart_lower}
 use Rattle.wdt_ranges.proofs.Gaps.{gaps_apart, gaps_lack}
 use Rattle.wdt_ranges.proofs.ranges.Ranges.gaps.Goals as goal
 
 pub overflow_add-least : goal.overflow_add-least
 overflow_add-least c =
-    let apart = subst (λ (xs : List Span). are_apart (map plain_span xs) ≡ true) (sym c.deref-span-items.ensures.value) c.self.invariant.0 in
-    omega (arith, (in_bounds c.deref-span-items.result.now c.loop-span.span-index (record { offset = 0; length = 0 }) apart c.loop-span-test.true).limit)
+    let s = plain_span c.in-Some.span in
+    let step : c.loop-span.span-iterator ≡ s ∷ c.next.new.self = c.in-Some.ensures.steps in
+    omega (arith, (apart_parts c.loop-span.least s c.next.new.self (ap (are_apart_from c.loop-span.least) (sym step) ∙ c.loop-span.invariant.apart)).span.limit)
+
+pub loop-span-preserved : goal.loop-span-preserved
+loop-span-preserved c =
+    let s = plain_span c.in-Some.span in
+    let step : c.loop-span.span-iterator ≡ s ∷ c.next.new.self = c.in-Some.ensures.steps in
+    let pushed : map plain_span c.push_between.new.spans.items ≡ map plain_span c.loop-span.gaps.items ++ span_between c.loop-span.least (min s.offset c.args.size) = grind (arith, common_steps) in
+    record {
+      gaps = ap (λ gs. gs ++ gaps_from (end_of s) c.args.size c.next.new.self) pushed
+          ∙ append_assoc (map plain_span c.loop-span.gaps.items) (span_between c.loop-span.least (min s.offset c.args.size)) (gaps_from (end_of s) c.args.size c.next.new.self)
+          ∙ ap (λ ss. map plain_span c.loop-span.gaps.items ++ gaps_from c.loop-span.least c.args.size ss) (sym step)
+          ∙ c.loop-span.invariant.gaps;
+      apart = apart_lower (end_of s) (end_of s + 1) c.next.new.self (omega arith) (apart_parts c.loop-span.least s c.next.new.self (ap (are_apart_from c.loop-span.least) (sym step) ∙ c.loop-span.invariant.apart)).rest;
+    }
 
 pub returns-clause-apart : goal.returns-clause-apart
 returns-clause-apart c =

@@ -5,8 +5,8 @@ use Rattle.std.proofs.lemmas.List.Sorted.{sum_by-IsPermutation}
 use Rattle.std.proofs.lemmas.Option.{MatchOption-at_none}
 use Rattle.wdt_tree.specs.declared.entry.Entry.{Entry}
 use Rattle.wdt_tree.specs.Listing.{entry_of, size_of, NoneTwiceBefore, NoFaultBefore}
-use Rattle.wdt_tree.proofs.Order.{made, ordered}
-use Rattle.wdt_tree.proofs.Refusals.{accepts}
+use Rattle.wdt_tree.proofs.lemmas.Order.{made, ordered}
+use Rattle.wdt_tree.proofs.lemmas.Refusals.{accepts}
 use Rattle.wdt_tree.proofs.manifest.Manifest.check.Goals as goal
 
 pub returns-clause-entries : goal.returns-clause-entries

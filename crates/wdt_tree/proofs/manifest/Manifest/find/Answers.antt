@@ -8,7 +8,7 @@ use Rattle.std.proofs.lemmas.Fn.{always_returns_same}
 use Rattle.std.proofs.lemmas.List.Sorted.{searchable_from_sorted}
 use Rattle.wdt_tree.specs.declared.entry.Entry.{Entry}
 use Rattle.wdt_tree.specs.Listing.{path_of, has_path, IsSortedByPath}
-use Rattle.wdt_tree.proofs.Order.{found_at, missing, sorted_from}
+use Rattle.wdt_tree.proofs.lemmas.Order.{found_at, missing, sorted_from}
 use Rattle.wdt_tree.proofs.manifest.Manifest.find.Goals as goal
 
 pub returns-in-Ok : goal.returns-in-Ok

@@ -1,5 +1,5 @@
-use Rattle.std.proofs.Common.{ℕ, ◌≤◌, List, length, ap, arith}
-use Rattle.wdt_units.proofs.Lawful.{lawful, IsPath}
+use Rattle.std.proofs.Common.{ℕ, List, length, ap, arith}
+use Rattle.wdt_units.proofs.lemmas.Lawful.{lawful, IsPath}
 use Rattle.wdt_units.proofs.path.Name.copy_to.Goals as goal
 
 pub unwrap-requires : goal.unwrap-requires

@@ -1,4 +1,4 @@
-use Rattle.wdt_units.proofs.Lawful.{lawful-text}
+use Rattle.wdt_units.proofs.lemmas.Lawful.{lawful-text}
 use Rattle.wdt_units.proofs.path.Name.of_lawful.Goals as goal
 
 pub from_utf8_unchecked-requires : goal.from_utf8_unchecked-requires

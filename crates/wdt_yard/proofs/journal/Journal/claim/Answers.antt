@@ -1,8 +1,8 @@
 use Rattle.std.proofs.Common.{◌≡◌, ◌<◌, false, length, sym, ap, ◌∙◌, subst, is_some, arith}
 use Rattle.wdt_sender_fsm.specs.SenderHistory.{past_of}
 use Rattle.wdt_yard.specs.Ledger.{Ledger}
-use Rattle.wdt_units.specs.LaneWords.{claimed}
-use Rattle.wdt_units.specs.Claimed.{lane_at, with_lane}
+use Rattle.wdt_claims.specs.LaneWords.{claimed}
+use Rattle.wdt_claims.specs.Claimed.{lane_at, with_lane}
 use Rattle.wdt_history.specs.Slots.{Book}
 use Rattle.wdt_sender_fsm.specs.Places.{least_of, queued}
 use Rattle.wdt_sender_fsm.specs.PlainSender.{listed_blocks}

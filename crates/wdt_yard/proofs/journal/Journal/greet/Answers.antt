@@ -1,11 +1,11 @@
 use Rattle.std.proofs.Common.{◌≡◌, ℕ, ◌+◌, ◌<◌, false, List, length, Some, sym, ap, ◌∙◌, subst, is_some, arith}
-use Rattle.wdt_units.specs.LaneWords.{Claims}
+use Rattle.wdt_claims.specs.LaneWords.{Claims}
 use Rattle.wdt_sender_fsm.specs.SenderHistory.{past_of}
 use Rattle.wdt_yard.specs.Ledger.{Ledger}
-use Rattle.wdt_units.specs.Blocks.{count_of}
-use Rattle.wdt_units.specs.LaneWords.{cut_to}
+use Rattle.wdt_claims.specs.Blocks.{count_of}
+use Rattle.wdt_claims.specs.LaneWords.{cut_to}
 use Rattle.std.specs.Option.{option_map}
-use Rattle.wdt_units.specs.Claimed.{count_kept, lane_at, with_lane}
+use Rattle.wdt_claims.specs.Claimed.{count_kept, lane_at, with_lane}
 use Rattle.wdt_history.specs.Slots.{Book}
 use Rattle.wdt_sender_fsm.specs.Faults.{count_fault, kind_of}
 use Rattle.wdt_yard.proofs.Keeps.{greet_keeps}

@@ -1,5 +1,5 @@
 use Rattle.std.proofs.Common.{◌<◌, length, sym, ap, ◌∙◌, subst, is_some, arith}
-use Rattle.wdt_units.specs.LaneWords.{Claims}
+use Rattle.wdt_claims.specs.LaneWords.{Claims}
 use Rattle.wdt_sender_fsm.specs.SenderHistory.{past_of}
 use Rattle.wdt_yard.specs.Ledger.{Ledger}
 use Rattle.wdt_yard.proofs.Readings.{claims_read, lanes_within}

@@ -1,8 +1,8 @@
 use Rattle.std.proofs.Common.{false, List, length, sym, ap, ◌∙◌, subst, refl}
 use Rattle.wdt_yard.specs.declared.tally.Tally.{Tally}
 use Rattle.std.specs.Prelude.{[]}
-use Rattle.wdt_units.specs.Blocks.{AreDistinct, count_of}
-use Rattle.wdt_units.proofs.BlockCounts.{rising_distinct}
+use Rattle.wdt_claims.specs.Blocks.{AreDistinct, count_of}
+use Rattle.wdt_claims.proofs.Shared.{rising_distinct}
 use Rattle.wdt_history.specs.Slots.{Book}
 use Rattle.wdt_sender_fsm.specs.declared.events.SendEvent.{SendEvent}
 use Rattle.wdt_yard.specs.Kept.{IsKept}

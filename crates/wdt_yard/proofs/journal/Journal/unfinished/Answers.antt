@@ -4,7 +4,7 @@ use Rattle.std.specs.Prelude.{vec_items}
 use Rattle.std.specs.Option.{option_map}
 use Rattle.std.proofs.lemmas.List.Sums.{count_by-le-length}
 use Rattle.wdt_units.specs.declared.blocks.Block.{Block}
-use Rattle.wdt_units.specs.Claimed.{is_held}
+use Rattle.wdt_claims.specs.Claimed.{is_held}
 use Rattle.wdt_sender_fsm.specs.Places.{holding, queued, unfinished}
 use Rattle.wdt_sender_fsm.specs.PlainSender.{listed_blocks}
 use Rattle.wdt_yard.proofs.Readings.{queue_read, lanes_within}

@@ -1,0 +1,3 @@
+pub mod BlockCounts
+pub mod BlockOrder
+pub mod Found

@@ -1,0 +1,4 @@
+pub mod Histories
+pub mod Keeps
+pub mod Readiness
+pub mod Says

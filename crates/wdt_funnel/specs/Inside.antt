@@ -1,0 +1,13 @@
+-- A funnel as the code keeps it.
+use Rattle.std.specs.Prelude.{◌<◌, ◌≤◌, ◌^◌}
+use Rattle.wdt_funnel.specs.declared.funnel.Funnel.TheInside.{Inside}
+use Rattle.wdt_funnel.specs.Barrier.{Barrier}
+
+abbrev pub seen : Inside → Barrier
+seen f = record { lanes = f.lanes; closed = f.closed; idle = f.idle; heard = f.heard; named = f.named; telling = f.telling }
+
+-- there are few lanes, and none beyond them is closed or idle
+pub record IsFunnel (f : Inside) : Type 0 where
+  pub few : f.lanes ≤ 16
+  pub closed : f.closed.0 < 2 ^ f.lanes
+  pub idle : f.idle.0 < 2 ^ f.lanes

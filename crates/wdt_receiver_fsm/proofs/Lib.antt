@@ -1,0 +1,9 @@
+mod Comes
+mod Entries
+pub mod ForCallers
+mod HeldActs
+mod Keeping
+mod LaneLists
+mod Receiving
+mod Touching
+mod Worked

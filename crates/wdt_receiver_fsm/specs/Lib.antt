@@ -1,0 +1,17 @@
+pub mod Acts
+pub mod Calls
+pub mod Frames
+pub mod Legal
+pub mod Logging
+pub mod Outcomes
+pub mod Phases
+pub mod PlainReceiver
+pub mod Plan
+pub mod Ready
+pub mod Receiver
+pub mod ReceiverHistory
+pub mod Rows
+pub mod Sets
+pub mod Touches
+pub mod Turn
+pub mod Worked

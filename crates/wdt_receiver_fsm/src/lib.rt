@@ -1,0 +1,28 @@
+//! What a receiver's lanes do: the states, the inputs, the acts and the table that joins them.
+//!
+//! A lane holds an input, hands it to its end, and gets an act to perform; what it answers is the next
+//! input. `row` says which row of the table fits a state and an input, `allowed` whether the input
+//! belongs to the state at all. The rest of a step is a definition: `specs/Turn` gives for each plain
+//! receiver, lane and input a plan, which is the act and the plain receiver behind it, or a program of
+//! calls on the disk with what stands where one of them fails and how the step goes on where none does.
+//! The history tells what has landed, which lanes are idle, who was told of a closed lane, and whether
+//! the finish is ready (`specs/ReceiverHistory`, `specs/Ready`); `specs/Legal` says which entries may
+//! follow which, and `specs/Phases` what a receiver's lane says in turn.
+#![tactic(auto)]
+
+mod acts;
+mod events;
+mod inputs;
+mod laws;
+mod rows;
+mod states;
+
+pub use acts::RecvAct;
+pub use events::RecvEvent;
+pub use inputs::RecvIn;
+pub use laws::{
+    acts_follow_from_lanes, receivers_stay_receivers, steps_have_outcomes, steps_touch_their_lane,
+    worked_steps,
+};
+pub use rows::{RecvRow, allowed, row};
+pub use states::{RecvLane, RecvState};

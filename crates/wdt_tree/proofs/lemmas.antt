@@ -1,0 +1,7 @@
+pub mod Cuts
+pub mod Doubles
+pub mod Files
+pub mod Order
+pub mod Refusals
+pub mod RestOnce
+pub mod Scan

@@ -1,5 +1,0 @@
-use Rattle.wdt_units.proofs.BlockCounts.{rising_once}
-use Rattle.wdt_units.proofs.laws.rising_blocks_are_one_list.Goals as goal
-
-pub returns : goal.returns
-returns c = rising_once

@@ -1,0 +1,12 @@
+pub mod Counts
+pub mod Decimal
+pub mod Each
+pub mod LanesOf
+pub mod Lawful
+pub mod Lists
+pub mod PathBytes
+pub mod PathFill
+pub mod PathOrder
+pub mod PathParts
+pub mod Rising
+pub mod Utf8Scan

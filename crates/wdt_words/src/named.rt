@@ -1,0 +1,75 @@
+//! What a form of a command names.
+ghost use Rattle.std.specs.Prelude.{◌≡◌, map, string_bytes, IfOk};
+ghost use Rattle.wdt_words.specs.Words.{named_by, named_of, word_at};
+
+use crate::command::Command;
+use crate::forms::command_of;
+use std::alloc::{AllocError, Global};
+use std::marker::Model;
+use wdt_units::NoMemory;
+
+/// What a form of a command names, by which `main` learns what to make. A form that has no folder,
+/// host or port leaves an empty text or 0.
+#[derive(Debug, Drop)]
+pub struct Named {
+    /// The folder to copy from.
+    pub source: String,
+    /// The folder to copy to.
+    pub dest: String,
+    pub host: String,
+    pub port: u16,
+    /// How many lanes, 1 to 16.
+    pub lanes: u8,
+}
+
+impl Model for Named {
+    ghost use Rattle.std.specs.Prelude.{string_bytes};
+    ghost use Rattle.wdt_words.specs.Named.{PlainNamed};
+
+    ghost Value = { PlainNamed };
+
+    ghost view = { λ n. record { source = string_bytes n.source; dest = string_bytes n.dest; host = string_bytes n.host; port = n.port; lanes = n.lanes } };
+
+    ghost invariant = { λ _. Unit {0} };
+}
+
+/// What the words name, or None exactly where they are no form of a command.
+pub fn folders_of(alloc: Global, words: &[String]) -> Result<Option<Named>, NoMemory>
+    ensures { IfOk result (λ found. found ≡ named_of (map string_bytes words.now)) }
+{
+    match command_of(words) {
+        Some(command) => match make_named(alloc, words, command) {
+            Ok(named) => Ok(Some(named)),
+            Err(_) => Err(NoMemory),
+        },
+        None => Ok(None),
+    }
+}
+
+// What the words of a command name.
+fn make_named(alloc: Global, words: &[String], command: Command) -> Result<Named, AllocError>
+    ensures { IfOk result (λ named. named ≡ named_by (map string_bytes words.now) command) }
+{
+    let (source, dest) = match command {
+        Command::Rehearse => (word(words, 1), ""),
+        Command::Plan { .. } => (word(words, 1), word(words, 2)),
+        Command::Log => ("", word(words, 1)),
+    };
+    Ok(Named {
+        source: String::from_str(alloc, source)?,
+        dest: String::from_str(alloc, dest)?,
+        host: String::new(alloc),
+        port: 0,
+        lanes: 1,
+    })
+}
+
+// The word at a place, or an empty text where there is none.
+fn word(words: &[String], at: usize) -> &str
+    ensures { result.now ≡ word_at (map string_bytes words.now) at }
+{
+    match words.get(at) {
+        Some(word) => word.as_str(),
+        None => "",
+    }
+}

@@ -1,0 +1,68 @@
+//! What no clause says: which word is told to be wrong, and that memory is enough.
+use crate::{Command, Expected, Misread, command_of, folders_of, read_words};
+use std::alloc::Global;
+use std::test::Fail;
+
+const NUMBER: Expected = Expected::Number {
+    least: 1,
+    greatest: 67_108_864,
+};
+
+fn words_of(alloc: Global, texts: &[&str]) -> Result<Vec<String>, Fail> {
+    let mut words = Vec::new(alloc);
+    for text in texts {
+        words.push(String::from_str(alloc, text)?)?;
+    }
+    Ok(words)
+}
+
+#[test]
+fn the_first_wrong_word_is_told(rt: HostRuntime) -> Result<(), Fail> {
+    let forms: [(&[&str], usize, Expected); 19] = [
+        (&[], 0, Expected::Command),
+        (&["copie", "SRC", "DST"], 3, Expected::Command),
+        (&["rehearse"], 0, Expected::Source),
+        (&["rehearse", "-SRC"], 1, Expected::Source),
+        (&["rehearse", "SRC", "--lanes", "17"], 2, Expected::End),
+        (&["rehearse", "SRC", "--block", "08"], 2, Expected::End),
+        (&["plan"], 0, Expected::Source),
+        (&["plan", "", "b"], 2, Expected::Source),
+        (&["plan", "a"], 0, Expected::Dest),
+        (&["plan", "a", "--block", "1"], 2, Expected::Dest),
+        (&["plan", "a", "b", "c"], 1, Expected::Setting),
+        (&["plan", "a", "b", "--block"], 0, NUMBER),
+        (&["plan", "a", "b", "--block", "0"], 1, NUMBER),
+        (&["plan", "a", "b", "--block", "08"], 1, NUMBER),
+        (&["plan", "a", "b", "--block", "67108865"], 1, NUMBER),
+        (
+            &["plan", "a", "b", "--block", "1", "--block", "1"],
+            2,
+            Expected::Once,
+        ),
+        (
+            &["plan", "a", "b", "--block", "1", "--lanes", "2"],
+            2,
+            Expected::Setting,
+        ),
+        (&["log"], 0, Expected::Dest),
+        (&["log", "a", "b"], 1, Expected::End),
+    ];
+    for (texts, left, expected) in forms {
+        let words = words_of(rt.alloc(), texts)?;
+        assert_eq!(rt; read_words(&words), Err(Misread { left, expected }));
+    }
+    Ok(())
+}
+
+#[test]
+fn forms_name_their_folders(rt: HostRuntime) -> Result<(), Fail> {
+    let block = 67_108_864;
+    let words = words_of(rt.alloc(), &["plan", "a", "b", "--block", "67108864"])?;
+    assert_eq!(rt; command_of(&words), Some(Command::Plan { block }));
+    let Some(named) = folders_of(rt.alloc(), &words)? else {
+        return Err(Fail::new("the words are no form"));
+    };
+    assert_eq!(rt; named.source.as_str(), "a");
+    assert_eq!(rt; named.dest.as_str(), "b");
+    Ok(())
+}
