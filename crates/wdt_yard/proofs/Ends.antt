@@ -3,6 +3,7 @@ use Rattle.std.proofs.Common.{◌≡◌, ◌≢◌, ℕ, ◌≤◌, ◌<◌, ◌
 use Rattle.std.proofs.lemmas.Bool.{cases_eq, ne_eqb}
 use Rattle.std.proofs.lemmas.List.{length-replicate, length-set}
 use Rattle.wdt_claims.specs.Blocks.{count_of}
+use Rattle.wdt_units.specs.declared.limits.TheConstants.{MAX_BLOCK}
 use Rattle.wdt_units.specs.Have.{HaveFile}
 use Rattle.wdt_claims.specs.LaneWords.{Claims, sent}
 use Rattle.wdt_claims.proofs.Shared.{count_of-nil}
@@ -124,7 +125,7 @@ least_file m n planned h None e of = tt
 least_file m n planned h (Some b) e of = of b (least_of_queued n planned h b (sym e))
 
 -- an end that begins
-pub end_starts : (m : List Entry) (b n : ℕ) (j : Ledger) (lanes : List SendLane) → 1 ≤ b → b ≤ 67108864 → lanes ≡ replicate n new_lane → j.lanes ≡ n → j.planned ≡ None → j.history ≡ [] → IsEnd m b None j lanes
+pub end_starts : (m : List Entry) (b n : ℕ) (j : Ledger) (lanes : List SendLane) → 1 ≤ b → b ≤ MAX_BLOCK → lanes ≡ replicate n new_lane → j.lanes ≡ n → j.planned ≡ None → j.history ≡ [] → IsEnd m b None j lanes
 end_starts m b n j lanes some most lanes_are count unplanned unnoted = record {
   same = ap (λ (xs : List SendLane). length xs) lanes_are ∙ length-replicate n new_lane ∙ sym count;
   block_size = (some, most);

@@ -1,6 +1,7 @@
 -- A sender within the limits begins within them, and stays there.
 use Rattle.std.proofs.Common.{◌≡◌, ℕ, ◌<◌, ◌≤◌, ◌^◌, List, length, replicate, sym, subst, arith}
 use Rattle.std.proofs.lemmas.List.{length-replicate}
+use Rattle.wdt_units.specs.declared.limits.TheConstants.{MAX_BLOCK}
 use Rattle.wdt_units.specs.declared.numbers.Lane.{Lane}
 use Rattle.wdt_tree.specs.Listing.{IsManifest}
 use Rattle.wdt_tree.specs.declared.entry.Entry.{Entry}
@@ -9,7 +10,7 @@ use Rattle.wdt_sender_fsm.specs.PlainSender.{PlainSender, new_lane, opened}
 use Rattle.wdt_sender_fsm.specs.Touches.{Touches}
 use Rattle.wdt_sender_fsm.specs.Writes.{IsLawful}
 
-pub begins_within : (manifest : List Entry) (block session n : ℕ) → 1 ≤ n → n ≤ 16 → 1 ≤ block → block ≤ 67108864 → session < 2 ^ 64 → IsManifest manifest
+pub begins_within : (manifest : List Entry) (block session n : ℕ) → 1 ≤ n → n ≤ 16 → 1 ≤ block → block ≤ MAX_BLOCK → session < 2 ^ 64 → IsManifest manifest
     → IsLawful (opened manifest block session (replicate n new_lane))
 begins_within manifest block session n some few least most fits is = record {
   lanes = (omega (arith, length-replicate n new_lane), omega (arith, length-replicate n new_lane));

@@ -1,6 +1,7 @@
 -- What a sender's end is seen as, with the room that was made for a step.
 use Rattle.std.specs.Prelude.{◌≡◌, ℕ, ◌-◌, ◌||◌, ◌<◌, ◌≤◌, Bool, List, [], ◌∷◌, length, slice_get, is_some, Option, All}
 use Rattle.wdt_claims.specs.Blocks.{count_of}
+use Rattle.wdt_units.specs.declared.limits.TheConstants.{MAX_BLOCK}
 use Rattle.wdt_units.specs.Have.{HaveFile}
 use Rattle.wdt_units.specs.declared.blocks.Block.{Block}
 use Rattle.wdt_units.specs.declared.numbers.Lane.{Lane}
@@ -52,7 +53,7 @@ MayDial lanes h = (l : ℕ) → state_in lanes l ≡ Connect → (past_of h l).c
 -- what an end keeps true of its parts
 pub record IsEnd (manifest : List Entry) (block : ℕ) (have : Option (List HaveFile)) (ledger : Ledger) (lanes : List SendLane) : Type 0 where
   pub same : length lanes ≡ ledger.lanes
-  pub block_size : (1 ≤ block) × (block ≤ 67108864)
+  pub block_size : (1 ≤ block) × (block ≤ MAX_BLOCK)
   pub listed : is_some have ≡ is_some ledger.planned
   pub files : AreOf (length manifest) (listed_blocks ledger.planned)
   pub dialing : MayDial lanes ledger.history

@@ -15,7 +15,7 @@ use wdt_history::Place;
 use wdt_ranges::Have;
 use wdt_sender_fsm::{EndAnswer, PeerKind, SendEvent, SendLane, SendState};
 use wdt_tree::Manifest;
-use wdt_units::{Block, Lane, NoMemory};
+use wdt_units::{Block, Lane, MAX_BLOCK, NoMemory};
 
 /// A sender's end. It is seen as the plain sender, and the room that was made.
 #[derive(Debug, Drop)]
@@ -52,7 +52,7 @@ impl SendEnd {
     ) -> Result<SendEnd, NoMemory>
         requires few { lanes ≤ 16 }
         requires some { 1 ≤ block }
-        requires limit { block ≤ 67108864 }
+        requires limit { block ≤ MAX_BLOCK }
         ensures { IfOk result (λ end. end.plain ≡ opened manifest block session (replicate lanes new_lane)) }
     {
         let journal = Journal::new(alloc, lanes)?;

@@ -26,7 +26,7 @@ use wdt_sender_fsm::{
     blocks_keep_their_places, senders_stay_senders, steps_answer_rightly, steps_touch_their_lane,
 };
 use wdt_tree::Manifest;
-use wdt_units::{Block, Lane, NoMemory};
+use wdt_units::{Block, Lane, MAX_BLOCK, NoMemory};
 
 /// A sender's end as its lanes share it. It is seen as the plain sender.
 #[derive(Debug, Drop)]
@@ -59,7 +59,7 @@ impl Yard {
         requires some_lanes { 1 ≤ lanes }
         requires few_lanes { lanes ≤ 16 }
         requires some_bytes { 1 ≤ block }
-        requires limit { block ≤ 67108864 }
+        requires limit { block ≤ MAX_BLOCK }
         ensures opened { IfOk result (λ yard. yard ≡ opened manifest block session (replicate lanes new_lane)) }
         ensures lawful { IfOk result (λ yard. IsSender yard) }
         ensures limits { IfOk result (λ yard. IsLawful yard) }
