@@ -8,6 +8,7 @@ use Rattle.wdt_ranges.specs.declared.chunks.Spot.{Spot}
 abbrev pub all_of : List (List PlainSpan) → List PlainSpan
 all_of chunks = flat_map (λ chunk. chunk) chunks
 
+-- a chunk has a span
 abbrev pub is_filled : List PlainSpan → Bool
 is_filled [] = false
 is_filled (s ∷ ss) = true

@@ -9,6 +9,7 @@ use Rattle.wdt_ranges.specs.declared.have.FileHave.{FileHave}
 abbrev pub have_file : FileHave → HaveFile
 have_file f = record { path = f.path; size = f.size; stamp = f.stamp; spans = f.spans }
 
+-- a file's path comes before another's
 abbrev pub is_before_file : HaveFile → HaveFile → Bool
 is_before_file a b = is_before a.path b.path
 

@@ -29,10 +29,11 @@ are_apart ss = are_apart_from 0 ss
 abbrev pub has : List PlainSpan → ℕ → Bool
 has ss position = list_any (is_in position) ss
 
--- how many positions the set has
+-- how many positions a span has
 abbrev pub count_of : PlainSpan → ℕ
 count_of s = s.count
 
+-- how many positions the set has
 abbrev pub total_of : List PlainSpan → ℕ
 total_of ss = sum_by count_of ss
 

@@ -109,7 +109,8 @@ pub fn put(chunks: &mut Vec<Chunk>, spot: Spot, joined: Joined) -> Result<(), No
     requires behind { joined.behind ≤ 1 }
     requires within { place_of chunks.old.items spot + joined.behind ≤ length (all_of chunks.old.items) }
     ensures filled { IsTrue (are_filled chunks.new.items) }
-    ensures items { OnOk result (all_of chunks.new.items ≡ take (place_of chunks.old.items spot - joined.before) (all_of chunks.old.items) ++ plain_span joined.span ∷ drop (place_of chunks.old.items spot + joined.behind) (all_of chunks.old.items)) }
+    ensures items { OnOk result (all_of chunks.new.items ≡ take (place_of chunks.old.items spot - joined.before) (all_of chunks.old.items)
+        ++ plain_span joined.span ∷ drop (place_of chunks.old.items spot + joined.behind) (all_of chunks.old.items)) }
     ensures unchanged { OnErr result (all_of chunks.new.items ≡ all_of chunks.old.items) }
     ensures alone { OnErr result ((joined.before ≡ 0) × (joined.behind ≡ 0)) }
 {
@@ -137,7 +138,8 @@ fn set_behind(chunks: &mut Vec<Chunk>, spot: Spot, span: Span)
     requires filled { IsTrue (are_filled chunks.old.items) }
     requires there { place_of chunks.old.items spot < length (all_of chunks.old.items) }
     ensures filled { IsTrue (are_filled chunks.new.items) }
-    ensures items { all_of chunks.new.items ≡ take (place_of chunks.old.items spot) (all_of chunks.old.items) ++ plain_span span ∷ drop (place_of chunks.old.items spot + 1) (all_of chunks.old.items) }
+    ensures items { all_of chunks.new.items ≡ take (place_of chunks.old.items spot) (all_of chunks.old.items)
+        ++ plain_span span ∷ drop (place_of chunks.old.items spot + 1) (all_of chunks.old.items) }
 {
     let next = next_spot(chunks, spot);
     chunks[next.chunk].set(next.at, span);
@@ -150,7 +152,8 @@ fn set_before(chunks: &mut Vec<Chunk>, spot: Spot, span: Span)
     requires some { 0 < spot.at }
     requires at { spot.at ≤ length (chunk_at chunks.old.items spot.chunk) }
     ensures filled { IsTrue (are_filled chunks.new.items) }
-    ensures items { all_of chunks.new.items ≡ take (place_of chunks.old.items spot - 1) (all_of chunks.old.items) ++ plain_span span ∷ drop (place_of chunks.old.items spot) (all_of chunks.old.items) }
+    ensures items { all_of chunks.new.items ≡ take (place_of chunks.old.items spot - 1) (all_of chunks.old.items)
+        ++ plain_span span ∷ drop (place_of chunks.old.items spot) (all_of chunks.old.items) }
 {
     chunks[spot.chunk].set(spot.at - 1, span);
 }
@@ -180,7 +183,8 @@ fn insert(chunks: &mut Vec<Chunk>, spot: Spot, span: Span) -> Result<(), NoMemor
     requires spot { IsSpot chunks.old.items spot }
     requires filled { IsTrue (are_filled chunks.old.items) }
     ensures filled { IsTrue (are_filled chunks.new.items) }
-    ensures items { OnOk result (all_of chunks.new.items ≡ take (place_of chunks.old.items spot) (all_of chunks.old.items) ++ plain_span span ∷ drop (place_of chunks.old.items spot) (all_of chunks.old.items)) }
+    ensures items { OnOk result (all_of chunks.new.items ≡ take (place_of chunks.old.items spot) (all_of chunks.old.items)
+        ++ plain_span span ∷ drop (place_of chunks.old.items spot) (all_of chunks.old.items)) }
     ensures unchanged { OnErr result (all_of chunks.new.items ≡ all_of chunks.old.items) }
 {
     if is_end(chunks, spot) {
@@ -199,7 +203,8 @@ fn insert_in(chunks: &mut Vec<Chunk>, spot: Spot, span: Span) -> Result<(), NoMe
     requires chunk { spot.chunk < length chunks.old.items }
     requires at { spot.at ≤ length (chunk_at chunks.old.items spot.chunk) }
     ensures filled { IsTrue (are_filled chunks.new.items) }
-    ensures items { OnOk result (all_of chunks.new.items ≡ take (place_of chunks.old.items spot) (all_of chunks.old.items) ++ plain_span span ∷ drop (place_of chunks.old.items spot) (all_of chunks.old.items)) }
+    ensures items { OnOk result (all_of chunks.new.items ≡ take (place_of chunks.old.items spot) (all_of chunks.old.items)
+        ++ plain_span span ∷ drop (place_of chunks.old.items spot) (all_of chunks.old.items)) }
     ensures unchanged { OnErr result (all_of chunks.new.items ≡ all_of chunks.old.items) }
 {
     chunks[spot.chunk].insert(spot.at, span)

@@ -52,7 +52,8 @@ impl Model for Ranges {
 
     ghost view = { λ r. all_of r.chunks.items };
 
-    ghost invariant = { λ r. IsTrue (are_apart (all_of r.chunks.items)) × IsTrue (are_filled r.chunks.items) × (r.count ≡ length (all_of r.chunks.items)) × (r.total ≡ total_of (all_of r.chunks.items)) };
+    ghost invariant = { λ r. IsTrue (are_apart (all_of r.chunks.items)) × IsTrue (are_filled r.chunks.items)
+        × (r.count ≡ length (all_of r.chunks.items)) × (r.total ≡ total_of (all_of r.chunks.items)) };
 }
 
 impl Ranges {
