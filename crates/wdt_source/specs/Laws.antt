@@ -24,6 +24,7 @@ same_files [] = IsPermutation-refl []
 same_files (file ∷ files) =
     IsPermutation-trans (file ∷ files) (file ∷ in_order files) (put file (in_order files)) (IsPermutation-cons file files (in_order files) (same_files files)) (put_moves file (in_order files))
 
+-- what is told of files, where it is told, is a tree
 pub told_is_tree : (files : List File) → IfSome (tree_of files) (λ told. IsTrue (is_tree told))
 told_is_tree files = go (is_tree (in_order files)) refl
   where
@@ -31,6 +32,7 @@ told_is_tree files = go (is_tree (in_order files)) refl
     go true e = e
     go false e = tt
 
+-- what is told of files comes with their listing
 pub told_is_listed : (files : List File) → IsListed (tree_of files) (Some (map entry_of_file files))
 told_is_listed files = go (is_tree (in_order files))
   where
