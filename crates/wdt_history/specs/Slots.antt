@@ -14,9 +14,11 @@ pub record Slot : Type 0 where
   pub claims : Claims
   pub room : ℕ
 
+-- a lane's claims, without the room of its list
 abbrev pub claims_in : Slot → Claims
 claims_in slot = slot.claims
 
+-- a lane that claimed nothing, and has no room
 abbrev pub no_slot : Slot
 no_slot = record { claims = no_claims; room = 0 }
 
@@ -25,6 +27,7 @@ abbrev pub HasRoom : List Slot → Option Lane → Type 0
 HasRoom slots None = Unit {0}
 HasRoom slots (Some lane) = 0 < (slice_index_or slots lane.0 no_slot).room
 
+-- the claims are those of lanes, and the lane that is ready has room for a block
 pub record IsBook (slots : List Slot) (ready : Option Lane) : Type 0 where
   pub lanes : AreLanes (map claims_in slots)
   pub room : HasRoom slots ready

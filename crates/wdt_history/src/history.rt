@@ -130,7 +130,8 @@ impl History {
         requires room { length (goes_back (lane_at self.old.lanes lane.0) n) ≤ queue.old.room }
         requires absent { AreDistinct (queue.old.waiting ++ goes_back (lane_at self.old.lanes lane.0) n) }
         ensures fault { result_err result ≡ fault_of (lane_at self.old.lanes lane.0) n }
-        ensures closes { OnOk result ((lane_at self.old.lanes lane.0).closed ≡ None → self.new ≡ record self.old { lanes = with_lane self.old.lanes lane.0 (closed_at n 0 (lane_at self.old.lanes lane.0)) }) }
+        ensures closes { OnOk result ((lane_at self.old.lanes lane.0).closed ≡ None
+            → self.new ≡ record self.old { lanes = with_lane self.old.lanes lane.0 (closed_at n 0 (lane_at self.old.lanes lane.0)) }) }
         ensures closed { IsSome (lane_at self.old.lanes lane.0).closed → (self.new ≡ self.old) × (queue.new ≡ queue.old) }
         ensures count { IfOk result (λ count. count ≡ length (goes_back (lane_at self.old.lanes lane.0) n)) }
         ensures blocks { OnOk result (HaveSameBlocks queue.new.waiting (queue.old.waiting ++ goes_back (lane_at self.old.lanes lane.0) n)) }

@@ -9,7 +9,8 @@ ghost use Rattle.wdt_claims.specs.Places.{place_at, place_of};
 
 /// A block that stands in a lane's list has the place of its index there.
 pub fn a_listed_block_has_the_place_of_its_index()
-    ensures { (lanes : List Claims) (lane index : ℕ) (block : Block) → AreLanes lanes → slice_get (lane_at lanes lane).kept index ≡ Some block → place_of block lanes ≡ place_at (lane_at lanes lane) index }
+    ensures { (lanes : List Claims) (lane index : ℕ) (block : Block) → AreLanes lanes → slice_get (lane_at lanes lane).kept index ≡ Some block
+        → place_of block lanes ≡ place_at (lane_at lanes lane) index }
 {}
 
 /// A block is queued exactly where it stands in no lane's list.
