@@ -71,6 +71,7 @@ pub record IsSound (f : DiskFile) : Type 0 where
   pub seen_bytes : AreBytes f.seen
   pub synced_bytes : AreBytes f.synced
 
+-- each file of the disk keeps the disk model
 abbrev pub IsSoundDisk : Disk → Type 0
 IsSoundDisk d = (path : List ℕ) → IfFile IsSound (d path)
 
@@ -110,6 +111,7 @@ wrote path offset bytes d = with_file path (option_map (write_file offset bytes)
 abbrev pub synced_at : List ℕ → Disk → Disk
 synced_at path d = with_file path (option_map sync_file (d path)) d
 
+-- what was found at the source stands at the target alone; where nothing was, nothing changes
 abbrev pub place_file : List ℕ → List ℕ → Option DiskFile → Disk → Disk
 place_file source target None d = d
 place_file source target (Some f) d = with_file target (Some f) (with_file source None d)

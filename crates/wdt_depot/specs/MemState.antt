@@ -12,6 +12,7 @@ use Rattle.wdt_depot.specs.Spots.{all_placed, entered_view}
 use Rattle.wdt_depot.specs.State.{SpotsStand, State, path_of, path_or}
 use Rattle.wdt_depot.specs.View.{index_of, slot_view}
 
+-- what contracts see of a depot in memory
 abbrev pub mem_state : MemDepot → State
 mem_state m = state_of (told_in m.store) m.health (map entered_view m.spots.items)
 
@@ -30,10 +31,12 @@ sound_at : (s : Store) (path : List ℕ) (o : Option ℕ) → index_of s.index p
 sound_at s path None e = tt
 sound_at s path (Some i) e = place_sound s.places.items i (s.within path i e)
 
+-- each file of a store keeps the disk model
 pub store_sound : (s : Store) → IsSoundDisk (told_in s).now
 unfolding told_of disk_of
 store_sound s path = sound_at s path (index_of s.index path) refl
 
+-- each file of a depot in memory does
 pub sound_in : (m : MemDepot) → IsSoundDisk (disk_in m)
 sound_in m = store_sound m.store
 
@@ -47,6 +50,7 @@ either_stands : (f : List ℕ → Option ℕ) (e : ℕ × List ℕ) (o : Option 
 either_stands f e o true here rest some = here
 either_stands f e o false here rest some = rest some
 
+-- where the path of each entered spot has a place, so has the path of this one, if it is entered
 pub stands : (f : List ℕ → Option ℕ) (es : List (ℕ × List ℕ)) (spot : ℕ) → all_placed es f ≡ true → IsSome (path_of spot es) → IsSome (f (path_or (path_of spot es)))
 stands f [] spot all some = cc
 stands f (e ∷ es) spot all some =
@@ -57,6 +61,7 @@ some_file : (s : Store) (path : List ℕ) (o : Option ℕ) → IsSome o → IsSo
 some_file s path None h = cc
 some_file s path (Some i) h = refl
 
+-- in a depot in memory the file of each entered spot stands
 pub stand_in : (m : MemDepot) → SpotsStand (mem_state m)
 unfolding told_of disk_of
 stand_in m spot some = some_file m.store (path_or (path_of spot (map entered_view m.spots.items))) (index_of m.store.index (path_or (path_of spot (map entered_view m.spots.items)))) (stands (index_of m.store.index) (map entered_view m.spots.items) spot m.placed some)

@@ -7,9 +7,11 @@ use Rattle.wdt_depot.specs.Moments.{Told}
 use Rattle.wdt_depot.specs.Slots.{Shelf, next_of, told_of}
 use Rattle.wdt_depot.specs.View.{index_of, slot_view, step_view}
 
+-- a store's shelf: the slot of each path, and the slots
 abbrev pub shelf_of : Store → Shelf
 shelf_of s = record { index = index_of s.index; slots = map slot_view s.places.items }
 
+-- what a store tells: the disks of its moments so far, and its disk now
 abbrev pub told_in : Store → Told
 told_in s = told_of (map step_view s.taken.items) (shelf_of s)
 

@@ -10,6 +10,7 @@ pub record Told : Type 0 where
   pub past : List Disk
   pub now : Disk
 
+-- all disks that are told, in their order; the disk now is the last
 abbrev pub moments : Told → List Disk
 moments t = t.past ++ t.now ∷ []
 
@@ -30,6 +31,7 @@ OneStep R (Some t) (Some u) = R t.now u.now × ((u ≡ t) ⊎ (u.past ≡ moment
 abbrev pub MayDo : {T E : Type 0} → (Disk → Disk) → Result T E → Disk → Disk → Type 0
 MayDo done result d e = MatchResult result (λ _. e ≡ done d) (λ _. (e ≡ d) ⊎ (e ≡ done d))
 
+-- each of the disks has P
 abbrev pub Holds : (Disk → Type 0) → List Disk → Type 0
 Holds P [] = Unit {0}
 Holds P (d ∷ ds) = P d × Holds P ds

@@ -7,9 +7,11 @@ use Rattle.wdt_units.specs.Have.{PlainSpan, is_in}
 use Rattle.wdt_depot.specs.Disk.{AreBytes, Disk, DiskFile, IfFile, IsClean, IsFileImage, IsImage, IsSettled, IsSound, IsSoundDisk, MayLeave, clean, seen_of}
 use Rattle.wdt_depot.specs.Picks.{is_settled, patterned, picked_bytes, picked_disk}
 
+-- a crash may leave a file's bytes as read
 pub seen_is_file_image : (f : DiskFile) → IsSound f → IsFileImage f f.seen
 seen_is_file_image f s = record { no_shorter = s.no_shorter; no_longer = omega arith; fixed = λ k t. refl; are_bytes = s.seen_bytes }
 
+-- it may leave its bytes at the last sync
 pub synced_is_file_image : (f : DiskFile) → IsSound f → IsFileImage f f.synced
 synced_is_file_image f s = record { no_shorter = omega arith; no_longer = s.no_shorter; fixed = λ k t. sym (s.agrees k t); are_bytes = s.synced_bytes }
 
@@ -18,10 +20,12 @@ pub image_of_each : (g : DiskFile → List ℕ) (o : Option DiskFile) → IfFile
 image_of_each g None h = tt
 image_of_each g (Some f) h = h
 
+-- what follows from P of a file is said where P is
 pub if_file_more : (P Q : DiskFile → Type 0) (o : Option DiskFile) → ((f : DiskFile) → P f → Q f) → IfFile P o → IfFile Q o
 if_file_more P Q None f h = tt
 if_file_more P Q (Some x) f h = f x h
 
+-- the pattern leaves as many bytes as there were
 pub length-patterned : (pick size : ℕ) (ranges : List PlainSpan) (k : ℕ) (bs : List ℕ) → length (patterned pick size ranges k bs) ≡ length bs
 length-patterned pick size ranges k [] = refl
 length-patterned pick size ranges k (b ∷ bs) = omega (arith, length-patterned pick size ranges (suc k) bs)
@@ -60,6 +64,7 @@ either_image : (f : DiskFile) (b : Bool) (i j : List ℕ) → IsFileImage f i �
 either_image f true i j h k = h
 either_image f false i j h k = k
 
+-- a crash may leave what a pick takes of a file
 pub picked_image : (pick : ℕ) (f : DiskFile) → IsSound f → IsFileImage f (picked_bytes pick f)
 unfolding picked_bytes
 picked_image pick f s = either_image f (pick == 0) _ _ (synced_is_file_image f s) (either_image f (pick == 1) _ _ (seen_is_file_image f s) (patterned_image pick f s))
@@ -69,6 +74,7 @@ unfolding clean
 file_left pick None h = (tt, tt)
 file_left pick (Some f) h = (picked_image pick f h, refl)
 
+-- a crash may leave what a pick takes of a disk, and nothing is pending in that
 pub picks_image : (d : Disk) (pick : ℕ) → IsSoundDisk d → IsImage d (seen_of (picked_disk d pick)) × ((path : List ℕ) → IfFile IsClean (picked_disk d pick path))
 unfolding picked_disk
 picks_image d pick s = (λ path. (file_left pick (d path) (s path)).0, λ path. (file_left pick (d path) (s path)).1)

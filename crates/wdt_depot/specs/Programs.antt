@@ -12,6 +12,7 @@ pub record Drive : Type 0 where
   pub disk : Disk
   pub stop : Stop
 
+-- the disk and the stop of a state, where the disk is told
 abbrev pub drive_of : State → Option Drive
 drive_of s = option_map (λ t. record { disk = t.now; stop = s.stop }) s.told
 
@@ -29,6 +30,7 @@ changed done torn after d (Some pick) = (false, record { disk = d; stop = after 
 unfoldable pub changing : (Disk → Disk) → (ℕ → Disk → Disk) → Drive → Bool × Drive
 changing done torn p = changed done torn (counted p.stop) p.disk p.stop.struck
 
+-- a call that changes nothing, by whether a stop had struck before: then it fails
 abbrev pub looked : Drive → Option ℕ → Bool × Drive
 looked p None = (true, p)
 looked p (Some pick) = (false, p)
@@ -46,15 +48,20 @@ abbrev pub torn_write : List ℕ → ℕ → List ℕ → ℕ → Disk → Disk
 torn_write path offset bytes pick d = if is_past_end offset (length bytes) then d else wrote path offset bytes d
 
 -- the changing calls one by one
+
+-- an empty file is made at a path
 abbrev pub run_make : List ℕ → Drive → Bool × Drive
 run_make path = changing (made path) (when_odd (made path))
 
+-- bytes are written to the file at a path, from an offset on
 abbrev pub run_write : List ℕ → ℕ → List ℕ → Drive → Bool × Drive
 run_write path offset bytes = changing (wrote path offset bytes) (torn_write path offset bytes)
 
+-- the file at a path is synced; a stop that strikes here leaves the disk as it was
 abbrev pub run_sync : List ℕ → Drive → Bool × Drive
 run_sync path = changing (synced_at path) (λ pick d. d)
 
+-- the file at the source is put in place at the target
 abbrev pub run_place : List ℕ → List ℕ → Drive → Bool × Drive
 run_place source target = changing (placed source target) (when_odd (placed source target))
 

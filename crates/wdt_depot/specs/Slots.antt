@@ -36,9 +36,11 @@ abbrev pub before_all : List Change → List ℕ → List ℕ
 before_all [] bytes = bytes
 before_all (c ∷ cs) bytes = undo_change c (before_all cs bytes)
 
+-- the range that a write touched
 abbrev pub range_of : Change → PlainSpan
 range_of c = record { offset = c.offset; count = c.count }
 
+-- the plain file of these bytes and these writes that aren't synced
 abbrev pub file_with : List ℕ → List Change → DiskFile
 file_with bytes changes = record { seen = bytes; synced = before_all changes bytes; ranges = map range_of changes }
 
@@ -46,9 +48,11 @@ file_with bytes changes = record { seen = bytes; synced = before_all changes byt
 abbrev pub file_of : Slot → DiskFile
 file_of s = file_with s.bytes s.pending
 
+-- an empty slot, in place of one that isn't there
 abbrev pub no_slot : Slot
 no_slot = record { bytes = []; pending = [] }
 
+-- the slot at a place; an empty one past the last
 abbrev pub slot_at : ℕ → List Slot → Slot
 slot_at i ss = slice_index_or ss i no_slot
 
@@ -70,12 +74,15 @@ pub data Step : Type 0 where
   placed_slot : List ℕ → List ℕ → ℕ → Option ℕ → Step
   reopened_slot : ℕ → ℕ → List ℕ → List Change → Step
 
+-- an empty write, in place of one that isn't there
 abbrev pub no_change : Change
 no_change = record { offset = 0; count = 0; before = []; size = 0 }
 
+-- the slot before its newest write
 abbrev pub undo_write : Slot → Slot
 undo_write s = record { bytes = undo_change (slice_index_or s.pending (length s.pending - 1) no_change) s.bytes; pending = take (length s.pending - 1) s.pending }
 
+-- the shelf with other slots
 abbrev pub with_slots : Shelf → List Slot → Shelf
 with_slots shelf ss = record { index = shelf.index; slots = ss }
 
@@ -102,20 +109,25 @@ next_of d t = record { past = moments t; now = d }
 
 -- slots after a call
 
+-- a write of these bytes over the old ones, as it is kept to be taken back
 abbrev pub change_of : ℕ → List ℕ → List ℕ → Change
 change_of offset bytes old = record { offset = offset; count = length bytes; before = take (length bytes) (drop offset old); size = length old }
 
+-- the slot after a write
 abbrev pub after_write : ℕ → List ℕ → Slot → Slot
 after_write offset bytes s = record { bytes = spliced s.bytes offset bytes; pending = s.pending ++ change_of offset bytes s.bytes ∷ [] }
 
+-- the slot after a sync: nothing is pending
 abbrev pub after_sync : Slot → Slot
 after_sync s = record { bytes = s.bytes; pending = [] }
 
+-- the slot after a reopening: the bytes that the pick takes, and nothing is pending
 abbrev pub after_reopen : ℕ → Slot → Slot
 after_reopen pick s = record { bytes = picked_bytes pick (file_of s); pending = [] }
 
 -- room for what comes
 
+-- 1 for a slot that has writes that aren't synced, else 0
 abbrev pub owed_one : List Change → ℕ
 owed_one cs = min (length cs) 1
 

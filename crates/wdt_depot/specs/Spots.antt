@@ -3,6 +3,7 @@ use Rattle.std.specs.Prelude.{ℕ, List, Option, is_some, Bool}
 use Rattle.std.specs.List.{list_all}
 use Rattle.wdt_depot.specs.declared.spots.Entered.{Entered}
 
+-- an entered spot: its number and its path
 abbrev pub entered_view : Entered → ℕ × List ℕ
 entered_view e = (e.number, e.path)
 

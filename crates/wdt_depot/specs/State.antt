@@ -35,6 +35,7 @@ abbrev pub path_of : ℕ → List (ℕ × List ℕ) → Option (List ℕ)
 path_of spot [] = None
 path_of spot (e ∷ es) = if e.0 == spot then Some e.1 else path_of spot es
 
+-- the path, or the empty one where there is none
 abbrev pub path_or : Option (List ℕ) → List ℕ
 path_or None = []
 path_or (Some path) = path
@@ -43,6 +44,7 @@ path_or (Some path) = path
 abbrev pub at_spot : ℕ → State → List ℕ
 at_spot spot s = path_or (path_of spot s.spots)
 
+-- the spot is entered
 abbrev pub IsEntered : ℕ → State → Type 0
 IsEntered spot s = IsSome (path_of spot s.spots)
 
@@ -61,6 +63,7 @@ entered (Ok (Some spot)) path = (spot.0, path) ∷ []
 entered (Ok None) path = []
 entered (Err e) path = []
 
+-- the same for a call that enters a spot wherever it succeeds
 abbrev pub needed : Result Spot DepotFail → List ℕ → List (ℕ × List ℕ)
 needed (Ok spot) path = (spot.0, path) ∷ []
 needed (Err e) path = []
@@ -82,10 +85,12 @@ pub record Reads (s : State) (path : List ℕ) (offset n : ℕ) (old new : List 
 
 -- the stop
 
+-- a stop that hasn't struck, after one more changing call: it strikes at the last
 abbrev pub armed_on : Option (ℕ × ℕ) → Stop
 armed_on None = record { armed = None; struck = None }
 armed_on (Some a) = if a.0 == 1 then record { armed = None; struck = Some a.1 } else record { armed = Some (a.0 - 1, a.1); struck = None }
 
+-- the same, by whether it had struck before: then it stays as it is
 abbrev pub counted_on : Option ℕ → Option (ℕ × ℕ) → Stop
 counted_on None armed = armed_on armed
 counted_on (Some pick) armed = record { armed = armed; struck = Some pick }
@@ -140,6 +145,7 @@ lacks path d = is_none (d path)
 abbrev pub is_past_end : ℕ → ℕ → Bool
 is_past_end offset count = nat_lt (2 ^ 41) (offset + count)
 
+-- the offset is above the file's length, or there is no file
 abbrev pub is_behind : ℕ → Option DiskFile → Bool
 is_behind offset None = true
 is_behind offset (Some f) = nat_lt (length f.seen) offset
@@ -173,5 +179,6 @@ pub record IsByNumber (cant : Bool) (failed refused : Type 0) (s : Schedule) (ne
 abbrev pub NumberedBy : (Disk → Bool) → Type 0 → Type 0 → State → State → Type 0
 NumberedBy cant failed refused old new = IfScheduled (λ s. IfTold (λ t. IsByNumber (cant t.now) failed refused s new) old.told) old.schedule
 
+-- the same, by the call's answer
 abbrev pub ByNumber : {T : Type 0} → (Disk → Bool) → Result T DepotFail → State → State → Type 0
 ByNumber cant result old new = NumberedBy cant (IsErrOf result Failed) (IsErrOf result NoMemory) old new

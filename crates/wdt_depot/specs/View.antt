@@ -8,9 +8,11 @@ use Rattle.wdt_depot.specs.declared.memory.taken.Taken.TheVariants.{Wrote, Synce
 use Rattle.wdt_depot.specs.Changes.{change_view}
 use Rattle.wdt_depot.specs.Slots.{Slot, Step, wrote_slot, synced_slot, made_slot, placed_slot, reopened_slot}
 
+-- the slot that a place in memory stands for
 abbrev pub slot_view : Place → Slot
 slot_view p = record { bytes = p.bytes.items; pending = map change_view p.pending.items }
 
+-- the step that what a call left to be taken back stands for
 abbrev pub step_view : Taken → Step
 step_view (Wrote i) = wrote_slot i
 step_view (Synced i changes) = synced_slot i (map change_view changes.items)

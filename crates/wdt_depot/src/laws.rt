@@ -22,14 +22,16 @@ pub fn a_sync_leaves_what_is_read()
 /// What a write leaves where some of its bytes were written, in any part of its range, is among what
 /// the whole write may leave.
 pub fn a_part_of_a_write()
-    ensures { (path : List ℕ) (offset from n : ℕ) (bytes : List ℕ) (d : Disk) → from ≤ length bytes → HasImagesOf (wrote path offset bytes d) (wrote path (offset + from) (take n (drop from bytes)) d) }
+    ensures { (path : List ℕ) (offset from n : ℕ) (bytes : List ℕ) (d : Disk) → from ≤ length bytes →
+        HasImagesOf (wrote path offset bytes d) (wrote path (offset + from) (take n (drop from bytes)) d) }
 {}
 
 /// A write changes its range alone: of what is read, and of each image, which has an image of the disk
 /// before beside it.
 pub fn a_write_stays_in_its_range()
     ensures reads { (path : List ℕ) (offset : ℕ) (bytes : List ℕ) (d : Disk) → IsImageRewritten path offset (length bytes) (seen_of d) (seen_of (wrote path offset bytes d)) }
-    ensures images { (path : List ℕ) (offset : ℕ) (bytes : List ℕ) (d : Disk) (i : Image) → IsSoundDisk d → IsImage (wrote path offset bytes d) i → (j : Image) × IsImage d j × IsImageRewritten path offset (length bytes) j i }
+    ensures images { (path : List ℕ) (offset : ℕ) (bytes : List ℕ) (d : Disk) (i : Image) → IsSoundDisk d → IsImage (wrote path offset bytes d) i →
+        (j : Image) × IsImage d j × IsImageRewritten path offset (length bytes) j i }
 {}
 
 /// A file that is made changes no other: each image has one of the disk before beside it.

@@ -20,7 +20,8 @@ use wdt_units::{MAX_FILE_SIZE, Name};
 
 // A file is made, where a stop strikes it by an odd pick.
 pub fn make_parts(store: &mut Store, health: &mut Health, path: &Name) -> Result<(), DepotFail>
-    ensures outcome { (es : List (ℕ × List ℕ)) → Outcome false false (made path.now) (when_odd (made path.now)) result (state_of (told_in store.old) health.old es) (state_of (told_in store.new) health.new es) }
+    ensures outcome { (es : List (ℕ × List ℕ)) →
+        Outcome false false (made path.now) (when_odd (made path.now)) result (state_of (told_in store.old) health.old es) (state_of (told_in store.new) health.new es) }
     ensures paths { KeepsPaths (shelf_of store.old).index (shelf_of store.new).index }
 {
     let turn = health.turn();
@@ -39,7 +40,9 @@ pub fn place_parts(
     from: &Name,
     to: &Name,
 ) -> Result<(), DepotFail>
-    ensures outcome { (es : List (ℕ × List ℕ)) → Outcome (lacks from.now (told_in store.old).now) (lacks from.now (told_in store.old).now) (placed from.now to.now) (when_odd (placed from.now to.now)) result (state_of (told_in store.old) health.old es) (state_of (told_in store.new) health.new es) }
+    ensures outcome { (es : List (ℕ × List ℕ)) →
+        Outcome (lacks from.now (told_in store.old).now) (lacks from.now (told_in store.old).now) (placed from.now to.now)
+        (when_odd (placed from.now to.now)) result (state_of (told_in store.old) health.old es) (state_of (told_in store.new) health.new es) }
     ensures paths { KeepsPathsBut from.now (shelf_of store.old).index (shelf_of store.new).index }
 {
     let turn = health.turn();
@@ -62,7 +65,9 @@ pub fn write_parts(
     bytes: &[u8],
 ) -> Result<(), DepotFail>
     requires within { at < length store.old.places.items }
-    ensures outcome { (path : List ℕ) (es : List (ℕ × List ℕ)) → (shelf_of store.old).index path ≡ Some at → Outcome (is_past_end offset (length bytes.now)) (is_far path offset (length bytes.now) (told_in store.old).now) (wrote path offset bytes.now) (torn_write path offset bytes.now) result (state_of (told_in store.old) health.old es) (state_of (told_in store.new) health.new es) }
+    ensures outcome { (path : List ℕ) (es : List (ℕ × List ℕ)) → (shelf_of store.old).index path ≡ Some at →
+        Outcome (is_past_end offset (length bytes.now)) (is_far path offset (length bytes.now) (told_in store.old).now) (wrote path offset bytes.now)
+        (torn_write path offset bytes.now) result (state_of (told_in store.old) health.old es) (state_of (told_in store.new) health.new es) }
     ensures past_end { 2 ^ 41 < offset + length bytes.now → IsErr result × told_in store.new ≡ told_in store.old }
     ensures index { store.new.index ≡ store.old.index }
 {
@@ -98,7 +103,8 @@ fn is_behind(place: &Place, offset: u64) -> bool
 // A sync, but not where a stop strikes it. It takes no memory, so it never answers the want of it.
 pub fn sync_parts(store: &mut Store, health: &mut Health, at: usize) -> Result<(), DepotFail>
     requires { at < length store.old.places.items }
-    ensures outcome { (path : List ℕ) (es : List (ℕ × List ℕ)) → (shelf_of store.old).index path ≡ Some at → Outcome false false (synced_at path) (λ pick d. d) result (state_of (told_in store.old) health.old es) (state_of (told_in store.new) health.new es) }
+    ensures outcome { (path : List ℕ) (es : List (ℕ × List ℕ)) → (shelf_of store.old).index path ≡ Some at →
+        Outcome false false (synced_at path) (λ pick d. d) result (state_of (told_in store.old) health.old es) (state_of (told_in store.new) health.new es) }
     ensures memory { IsErrOf result DepotFail.NoMemory → ⊥ }
     ensures kept { OnErr result (told_in store.new ≡ told_in store.old) }
     ensures index { store.new.index ≡ store.old.index }
