@@ -4,6 +4,7 @@ use Rattle.wdt_units.specs.declared.numbers.LaneSet.{LaneSet}
 use Rattle.wdt_units.specs.LaneSets.{has_lane, no_lanes, only_lane, lanes_with, lanes_without}
 use Rattle.wdt_funnel.specs.Happenings.{Happening, Took, Dropped, Idled, Told, Closed, every, some}
 
+-- what stands between a receiver and its finish
 pub record Barrier : Type 0 where
   -- how many lanes there are, at most 16
   pub lanes : ℕ

@@ -5,6 +5,7 @@ use Rattle.std.specs.List.{list_any}
 use Rattle.wdt_units.specs.declared.numbers.LaneSet.{LaneSet}
 use Rattle.wdt_units.specs.LaneSets.{has_lane}
 
+-- one thing that happens on a receiver's lane, by the lane's number
 pub data Happening : Type 0 where
   -- the lane took a connection
   Took : ℕ → Happening
@@ -19,18 +20,22 @@ pub data Happening : Type 0 where
 
 -- ---- what a happening is for a lane
 
+-- the lane took a connection
 abbrev pub takes : ℕ → Happening → Bool
 takes l (Took k) = k == l
 takes l _ = false
 
+-- the lane's connection is lost
 abbrev pub drops : ℕ → Happening → Bool
 drops l (Dropped k) = k == l
 drops l _ = false
 
+-- the lane read that the sender has nothing more to send
 abbrev pub idles : ℕ → Happening → Bool
 idles l (Idled k) = k == l
 idles l _ = false
 
+-- the lane is given up
 abbrev pub closes : ℕ → Happening → Bool
 closes l (Closed k) = k == l
 closes l _ = false

@@ -7,8 +7,9 @@ ghost use Rattle.wdt_funnel.specs.Happenings.{Took, Dropped, Idled, Told, Closed
 use std::marker::Model;
 use wdt_units::{Lane, LaneSet};
 
-/// What stands between a receiver and its finish.
-#[derive(Debug, Drop)]
+/// What stands between a receiver and its finish. It can be copied, so that a caller may ask what would
+/// be if one thing more had happened.
+#[derive(Clone, Copy, Debug)]
 pub struct Funnel {
     lanes: u8,
     closed: LaneSet,
@@ -26,9 +27,11 @@ impl Model for Funnel {
 
     ghost Value = { Barrier };
 
-    ghost use Rattle.wdt_funnel.specs.Inside.{seen, IsFunnel};
+    ghost use Rattle.wdt_funnel.specs.Inside.{kept_of, seen, IsFunnel};
 
     ghost view = { seen };
+
+    ghost inverse = { kept_of };
 
     ghost invariant = { IsFunnel };
 }
