@@ -11,5 +11,6 @@ ghost use Rattle.wdt_discover.specs.Plan.{refusal};
 /// A file is refused exactly where it is the one of the least path among those that the tree lacks or
 /// has with another size or stamp.
 pub fn the_least_is_refused()
-    ensures { (entries : List Entry) (have : List HaveFile) (most : ℕ) (path : List ℕ) (logged : ℕ × ℕ) (found : Option (ℕ × ℕ)) → is_in_order have ≡ true → (refusal entries have most ≡ Some (Stale path logged found)) ↔ IsLeastStale entries have path logged found }
+    ensures { (entries : List Entry) (have : List HaveFile) (most : ℕ) (path : List ℕ) (logged : ℕ × ℕ) (found : Option (ℕ × ℕ)) → is_in_order have ≡ true
+        → (refusal entries have most ≡ Some (Stale path logged found)) ↔ IsLeastStale entries have path logged found }
 {}

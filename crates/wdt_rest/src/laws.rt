@@ -26,7 +26,8 @@ pub fn rest_and_have_are_the_tree()
 
 /// The same of the blocks in any order, as they land.
 pub fn landed_blocks_make_the_tree()
-    ensures { (entries : List Entry) (have : List HaveFile) (most : ℕ) (blocks : List Block) → 0 < most → is_in_order entries ≡ true → FitsTree entries have → HaveSameBlocks (rest_of entries have most) blocks → AreTogether entries have blocks }
+    ensures { (entries : List Entry) (have : List HaveFile) (most : ℕ) (blocks : List Block) → 0 < most → is_in_order entries ≡ true → FitsTree entries have
+        → HaveSameBlocks (rest_of entries have most) blocks → AreTogether entries have blocks }
 {}
 
 /// A have to which nothing is still to be sent has as many files and bytes as the tree.
