@@ -1,9 +1,10 @@
 //! Calls on files beside the log, which keep the log at rest and each image good for what was logged.
-ghost use Rattle.std.specs.Prelude.{◌≡◌, ℕ, false, [], List, IsErrOf, OnOk, None, length};
+ghost use Rattle.std.specs.Prelude.{◌≡◌, ℕ, false, [], List, IsErrOf, IsSome, OnOk, None, length};
 ghost use Rattle.std.specs.Str.{bytes_eq};
 ghost use Rattle.wdt_units.specs.Tree.{File};
 ghost use Rattle.wdt_depot.specs.Disk.{wrote};
 ghost use Rattle.wdt_depot.specs.Moments.{IfTold, MayDo, OneStep, Run};
+ghost use Rattle.wdt_depot.specs.Programs.{Ran, both, looking, run_sync};
 ghost use Rattle.wdt_depot.specs.State.{Counts};
 ghost use Rattle.wdt_logfmt.specs.View.{NamedFile};
 ghost use Rattle.wdt_good.specs.Changing.{MayWrite};
@@ -49,6 +50,8 @@ pub fn sync_beside<D: Depot>(depot: &mut D, path: &Name) -> Result<(), DepotFail
     requires other { bytes_eq path.now log_path ≡ false }
     requires spots { (D.state depot.old).spots ≡ [] }
     ensures synced { Run Keeps (Syncs result path.now) (D.state depot.old).told (D.state depot.new).told }
+    ensures exact { Ran (both looking (run_sync path.now)) result (D.state depot.old) (D.state depot.new) }
+    ensures slips { IfTold (λ t. IsSome (t.now path.now) → (D.state depot.new).slips ≡ (D.state depot.old).slips) (D.state depot.old).told }
     ensures memory { IsErrOf result DepotFail.NoMemory → (D.state depot.new).told ≡ (D.state depot.old).told }
     ensures up { OnOk result ((D.state depot.new).stop.struck ≡ None) }
     ensures spots { (D.state depot.new).spots ≡ [] }
