@@ -11,6 +11,10 @@ pub use Rattle.wdt_logfmt.proofs.Landing.{all_added-append, can_land, entry_leav
 pub use Rattle.wdt_logfmt.proofs.Lawful.{IsFreePath, batch-view, means-view, named-free}
 pub use Rattle.wdt_logfmt.proofs.Reread.{first_added}
 pub use Rattle.wdt_logfmt.proofs.Views.{CanCover, CanName, added-view, can_cover-parts, can_name-parts, room_above, taken_true}
+-- ---- blocks
+
+pub use Rattle.wdt_logfmt.proofs.Blocks.{block_marked, blocks_marked, entries-append, entries_kept}
+pub use Rattle.wdt_logfmt.proofs.Known.{HasNumber, IsFreeSlot, known_stays, new_slot, number_found, number_new}
 -- ---- files
 
 pub use Rattle.wdt_logfmt.proofs.Views.{IsFile, IsView, eq_sym, file_parts, names_kept, names_put, rising_put, view_none, view_parts}

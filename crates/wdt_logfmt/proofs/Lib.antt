@@ -1,10 +1,12 @@
 pub mod Appending
+mod Blocks
 mod Covering
 mod EntryReading
 pub mod ForCallers
 mod Gates
 mod Having
 mod Keeping
+mod Known
 mod Landing
 pub mod Lawful
 pub mod Prefix

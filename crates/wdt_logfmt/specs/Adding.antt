@@ -1,6 +1,7 @@
 -- How an entry adds to the files of a log, and which entries don't continue them.
 use Rattle.std.specs.Prelude.{ℕ, ◌+◌, min, Bool, not, nat_lt, nat_le, ◌&&◌, ◌==◌, if◌then◌else◌, List, [], ◌∷◌, map, Option, Some, None, option_and_then}
 use Rattle.std.specs.List.{list_any}
+use Rattle.wdt_units.specs.declared.limits.TheConstants.{MAX_BLOCK}
 use Rattle.wdt_units.specs.Have.{HaveFile, PlainSpan}
 use Rattle.wdt_ranges.specs.Spans.{end_of}
 use Rattle.wdt_logfmt.specs.declared.entry.LogEntry.{LogEntry}
@@ -40,6 +41,7 @@ with_span s (t ∷ ts) =
     else if nat_lt (end_of s) t.offset then s ∷ t ∷ ts
     else with_span (joined s t) ts
 
+-- a file with one more span
 abbrev pub have_with : PlainSpan → HaveFile → HaveFile
 have_with s f = record { path = f.path; size = f.size; stamp = f.stamp; spans = with_span s f.spans }
 
@@ -55,13 +57,14 @@ has_room s f = nat_le (end_of s) f.size && not (list_any (overlap s) f.spans)
 abbrev pub is_room_in : ℕ → PlainSpan → NamedFile → Bool
 is_room_in number s f = f.number == number && has_room s f.have
 
--- a span can be covered: 1 to 67,108,864 positions for which the file of this number has room; and all
+-- a span can be covered: as many positions as a block may have, for which the file of this number has room; and all
 -- files stay within the limits
 unfoldable pub can_cover : List NamedFile → ℕ → PlainSpan → Bool
 can_cover fs number s =
-    nat_lt 0 s.count && nat_le s.count 67108864 && list_any (is_room_in number s) fs
+    nat_lt 0 s.count && nat_le s.count MAX_BLOCK && list_any (is_room_in number s) fs
     && is_within_limits (map (covering number s) fs)
 
+-- the span from an offset on, of so many positions
 abbrev pub span_at : ℕ → ℕ → PlainSpan
 span_at offset count = record { offset = offset; count = count }
 

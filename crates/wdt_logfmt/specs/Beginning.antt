@@ -1,6 +1,7 @@
 -- What stands in the way of a block that is to begin: its file is known otherwise, a position of it is
 -- there or on its way, or a limit would be passed. They are tried in this order.
-use Rattle.std.specs.Prelude.{ℕ, zero, suc, ◌+◌, ◌-◌, ◌==◌, ◌&&◌, ◌||◌, max, min, nat_lt, not, Bool, List, [], ◌∷◌, ◌++◌, filter, map, slice_get, sum_by, count_by, Option, Some, None, is_some, if◌then◌else◌}
+use Rattle.std.specs.Prelude.{ℕ, zero, suc, ◌+◌, ◌-◌, ◌==◌, ◌&&◌, ◌||◌, max, min, nat_lt, not, Bool}
+use Rattle.std.specs.Prelude.{List, [], ◌∷◌, ◌++◌, filter, map, slice_get, sum_by, count_by, Option, Some, None, is_some, if◌then◌else◌}
 use Rattle.std.specs.List.{list_any}
 use Rattle.std.specs.Str.{bytes_eq}
 use Rattle.wdt_units.specs.declared.limits.TheConstants.{MAX_FILES, MAX_SPANS, MAX_TOTAL}
@@ -205,7 +206,7 @@ spans_with ms blocks = spans_in ms + sum_by (span_cost ms) blocks
 abbrev pub bytes_with : List Marked → List Block → ℕ
 bytes_with ms blocks = bytes_in ms + sum_by length_of blocks
 
--- at most 262,144 files, 1,310,720 spans and 2^50 bytes, with the block and all that have begun
+-- no more files, spans and bytes than a transfer may have, with the block and all that have begun
 abbrev pub limit_fault : List (Option KnownFile) → List Marked → List Block → Bool → Block → Option BeginFault
 limit_fault known ms begun new b =
     or_else (over MAX_FILES (files_with known new))

@@ -1,4 +1,5 @@
 pub mod Adding
+pub mod Batches
 pub mod Landing
 pub mod Beginning
 pub mod Marks

@@ -1,6 +1,6 @@
 -- Which files are named and which of their positions are there, by the numbers of the files: what a log
 -- says, and the blocks that landed since.
-use Rattle.std.specs.Prelude.{ℕ, ◌==◌, Bool, List, [], ◌∷◌, length, map, sum_by, if◌then◌else◌}
+use Rattle.std.specs.Prelude.{ℕ, ◌==◌, nat_lt, Bool, List, [], ◌∷◌, length, map, sum_by, if◌then◌else◌}
 use Rattle.std.specs.List.{list_any}
 use Rattle.wdt_units.specs.Have.{PlainSpan}
 use Rattle.wdt_units.specs.declared.blocks.Block.{Block}
@@ -25,11 +25,16 @@ with_block spans b = if b.length == 0 then spans else with_span (span_at b.offse
 abbrev pub is_marked_as : ℕ → Marked → Bool
 is_marked_as number m = m.number == number
 
--- the marks with one more block, whose file is named by it where it wasn't
+-- the marks of a file of which this block is the first
+abbrev pub just_marked : Block → Marked
+just_marked b = record { number = b.file; spans = block_spans b }
+
+-- the marks with one more block, whose file is named by it where it wasn't: the marks rise by number
 abbrev pub mark_block : List Marked → Block → List Marked
-mark_block [] b = record { number = b.file; spans = block_spans b } ∷ []
+mark_block [] b = just_marked b ∷ []
 mark_block (m ∷ ms) b =
     if is_marked_as b.file m then record { number = m.number; spans = with_block m.spans b } ∷ ms
+    else if nat_lt b.file m.number then just_marked b ∷ m ∷ ms
     else m ∷ mark_block ms b
 
 -- the marks of a file of a log

@@ -24,6 +24,7 @@ number n bytes = if nat_le n (length bytes) then Some (big_number n bytes, drop 
 unfoldable pub some_bytes : ℕ → Reading (List ℕ)
 some_bytes n bytes = if nat_le n (length bytes) then Some (take n bytes, drop n bytes) else None
 
+-- what is read behind a value, where that was read
 abbrev pub then_read : {A B : Type 0} → Option (A × List ℕ) → (A → Reading B) → Option (B × List ℕ)
 then_read None f = None
 then_read (Some x) f = f x.0 x.1
@@ -63,6 +64,7 @@ abbrev pub ok_then : {A B : Type 0} → Result A ℕ → (A → Result B ℕ) �
 ok_then (Ok x) f = f x
 ok_then (Err at) f = Err at
 
+-- a part that was read, or the place where it has no reading
 abbrev pub or_bad : {A : Type 0} → ℕ → Option A → Result A ℕ
 or_bad place None = Err place
 or_bad place (Some x) = Ok x
@@ -111,6 +113,7 @@ from_gate (suc fuel) g = if g.byte == 1 then ok_then (next_gate g) (from_gate fu
 abbrev pub version_of : List ℕ → Option ℕ
 version_of front = if bytes_eq front (header 1) then Some 1 else None
 
+-- what stands behind the header of a log of this version; bytes that begin otherwise are no log
 abbrev pub behind_header : Option ℕ → List ℕ → Result Meaning ℕ
 behind_header None rest = Err 0
 behind_header (Some version) [] = Err 0

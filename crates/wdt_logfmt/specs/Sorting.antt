@@ -5,6 +5,7 @@ use Rattle.std.specs.Cmp.Lexicographic.{slice_cmp}
 use Rattle.std.specs.Ordering.{nat_cmp}
 use Rattle.wdt_ranges.specs.declared.have.FileHave.{FileHave}
 
+-- the path of a file
 abbrev pub path_of : FileHave → List ℕ
 path_of f = f.path
 

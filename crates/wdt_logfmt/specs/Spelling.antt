@@ -15,10 +15,12 @@ abbrev pub Fits : LogEntry → Type 0
 Fits (File number path size stamp) = (number < 2 ^ 32) × (length path < 2 ^ 16) × (size < 2 ^ 64) × (stamp < 2 ^ 64)
 Fits (Covered number offset count) = (number < 2 ^ 32) × (offset < 2 ^ 64) × (count < 2 ^ 32)
 
+-- the numbers of all these entries have room in their fields
 abbrev pub AllFit : List LogEntry → Type 0
 AllFit [] = Unit {0}
 AllFit (e ∷ es) = Fits e × AllFit es
 
+-- the bytes of entries, one behind the other
 abbrev pub spell_all : List LogEntry → List ℕ
 spell_all es = flat_map spell es
 

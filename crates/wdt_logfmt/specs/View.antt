@@ -1,6 +1,7 @@
 -- What a log says: its files by number, what is covered of each, and where the log ends.
-use Rattle.std.specs.Prelude.{ℕ, ◌^◌, Bool, true, not, nat_lt, nat_le, ◌&&◌, ◌==◌, if◌then◌else◌, List, [], ◌∷◌, length, map, sum_by}
+use Rattle.std.specs.Prelude.{ℕ, Bool, true, not, nat_lt, nat_le, ◌&&◌, ◌==◌, if◌then◌else◌, List, [], ◌∷◌, length, map, sum_by}
 use Rattle.std.specs.List.{list_all}
+use Rattle.wdt_units.specs.declared.limits.TheConstants.{MAX_FILES, MAX_FILE_SIZE, MAX_SPANS, MAX_TOTAL}
 use Rattle.wdt_units.specs.Have.{HaveFile, PlainSpan, is_named}
 use Rattle.wdt_units.specs.Path.{is_lawful, is_reserved}
 use Rattle.wdt_units.specs.Tree.{is_before}
@@ -23,6 +24,7 @@ pub record Meaning : Type 0 where
 abbrev pub named_file : LogFile → NamedFile
 named_file f = record { number = f.number; have = have_file f.have }
 
+-- the files of the code as plain data
 abbrev pub named_files : List LogFile → List NamedFile
 named_files fs = map named_file fs
 
@@ -44,9 +46,9 @@ have_of_file f = f.have
 abbrev pub names : List NamedFile → List ℕ → Bool
 names fs path = is_named (map have_of_file fs) path
 
--- a number below 262,144, a lawful path that isn't one of the receiver's own, and a size of at most 2^40
+-- a number and a size within the limits, and a lawful path that isn't one of the receiver's own
 abbrev pub is_nameable : ℕ → List ℕ → ℕ → Bool
-is_nameable number path size = nat_lt number 262144 && is_lawful path && not (is_reserved path) && nat_le size (2 ^ 40)
+is_nameable number path size = nat_lt number MAX_FILES && is_lawful path && not (is_reserved path) && nat_le size MAX_FILE_SIZE
 
 -- a span ends at the size or before
 abbrev pub ends_within : ℕ → PlainSpan → Bool
@@ -58,6 +60,7 @@ is_file f = is_nameable f.number f.have.path f.have.size && are_apart f.have.spa
 
 -- ---- which lists of files a log can lead to
 
+-- the second file's number is greater
 abbrev pub is_numbered_above : NamedFile → NamedFile → Bool
 is_numbered_above f g = nat_lt f.number g.number
 
@@ -71,15 +74,17 @@ abbrev pub are_paths_once : List NamedFile → Bool
 are_paths_once [] = true
 are_paths_once (f ∷ fs) = not (names fs f.have.path) && are_paths_once fs
 
+-- how many spans a file has
 abbrev pub spans_in : NamedFile → ℕ
 spans_in f = length f.have.spans
 
+-- how many positions of a file are covered
 abbrev pub bytes_in : NamedFile → ℕ
 bytes_in f = total_of f.have.spans
 
--- all files have at most 1,310,720 spans and 2^50 covered bytes together
+-- all files together have no more spans and covered bytes than a transfer may have
 abbrev pub is_within_limits : List NamedFile → Bool
-is_within_limits fs = nat_le (sum_by spans_in fs) 1310720 && nat_le (sum_by bytes_in fs) (2 ^ 50)
+is_within_limits fs = nat_le (sum_by spans_in fs) MAX_SPANS && nat_le (sum_by bytes_in fs) MAX_TOTAL
 
 -- files that a log can lead to
 unfoldable pub is_view : List NamedFile → Bool

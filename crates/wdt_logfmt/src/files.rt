@@ -196,7 +196,8 @@ fn name_of(alloc: Global, number: u32, path: &[u8], size: u64) -> Result<Option<
 // Adds a path to a set of them, or answers false where it is there.
 fn add_path<'a>(paths: &mut BTreeSet<&'a [u8]>, path: &'a [u8]) -> Result<bool, NoMemory>
     ensures added { IfOk result (λ added. added ≡ not (contains_by (λ k. slice_cmp nat_cmp path.now k.now) paths.old)) }
-    ensures paths { OnOk result ((other : List ℕ) → contains_by (λ k. slice_cmp nat_cmp other k.now) paths.new ≡ (bytes_eq path.now other || contains_by (λ k. slice_cmp nat_cmp other k.now) paths.old)) }
+    ensures paths { OnOk result ((other : List ℕ)
+        → contains_by (λ k. slice_cmp nat_cmp other k.now) paths.new ≡ (bytes_eq path.now other || contains_by (λ k. slice_cmp nat_cmp other k.now) paths.old)) }
 {
     match paths.insert(path) {
         Ok(added) => Ok(added),
@@ -250,7 +251,8 @@ fn with_span(
     requires size { file.size ≤ MAX_FILE_SIZE }
     requires within { length file.spans ≤ spans }
     requires few { spans ≤ MAX_SPANS }
-    ensures file { IfOk result (λ after. option_map (λ x. have_file x.0) after ≡ (if has_room (plain_span span) (have_file file) then Some (have_with (plain_span span) (have_file file)) else None)) }
+    ensures file { IfOk result (λ after. option_map (λ x. have_file x.0) after
+        ≡ (if has_room (plain_span span) (have_file file) then Some (have_with (plain_span span) (have_file file)) else None)) }
     ensures spans { IfOk result (λ after. IfSome after (λ x. x.1 + length file.spans ≡ spans + length (x.0).spans)) }
 {
     if span.offset > file.size || span.length > file.size - span.offset {

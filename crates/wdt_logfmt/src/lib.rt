@@ -22,8 +22,10 @@ mod writing;
 pub use entry::LogEntry;
 pub use fails::ReadLogFail;
 pub use laws::{
-    a_batch_may_come_in_parts, a_closed_gate_ends_a_log, a_span_more_is_at_most_one_more,
-    a_written_batch_is_read_again, an_entry_touches_its_file, what_has_room_can_land,
+    a_batch_may_come_in_parts, a_closed_gate_ends_a_log, a_new_file_gets_a_free_number,
+    a_number_is_that_of_a_known_file, a_span_more_is_at_most_one_more,
+    a_written_batch_is_read_again, an_entry_touches_its_file, blocks_are_logged_one_by_one,
+    marks_follow_entries, what_has_room_can_land,
 };
 pub use reading::read_log;
 pub use view::{LogFile, LogView};

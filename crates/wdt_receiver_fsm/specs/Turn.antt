@@ -10,6 +10,7 @@ use Rattle.wdt_codec.specs.declared.frames.Frame.{Frame}
 use Rattle.wdt_codec.specs.declared.frames.Frame.TheVariants as frames
 use Rattle.wdt_codec.specs.declared.frames.Settings.{Settings}
 use Rattle.wdt_depot.specs.Programs.{run_make}
+use Rattle.wdt_logfmt.specs.Batches.{path_at}
 use Rattle.wdt_logfmt.specs.Beginning.{KnownFile, block_of, is_new, with_known}
 use Rattle.wdt_logfmt.specs.Marks.{bytes_in, files_in}
 use Rattle.wdt_sender_fsm.specs.declared.answers.EndAnswer.{EndAnswer}
@@ -26,7 +27,7 @@ use Rattle.wdt_receiver_fsm.specs.declared.inputs.RecvIn.{RecvIn}
 use Rattle.wdt_receiver_fsm.specs.declared.states.RecvState.TheVariants as states
 use Rattle.wdt_receiver_fsm.specs.Calls.{run_piece}
 use Rattle.wdt_receiver_fsm.specs.Frames.{block_fault, settings_fault, short_fault, size_fault}
-use Rattle.wdt_receiver_fsm.specs.Logging.{flush_plan, path_at}
+use Rattle.wdt_receiver_fsm.specs.Logging.{flush_plan}
 use Rattle.wdt_receiver_fsm.specs.Plan.{Plan, calls, ends}
 use Rattle.wdt_receiver_fsm.specs.PlainReceiver.{PlainReceiver, begun_blocks, can_finish, failed, goes, has_finish, have_now, is_batch_full, lane_at, mark_of, marks_at, marks_told, noted, past_at, state_at, untold_at, with_lane}
 use Rattle.wdt_receiver_fsm.specs.ReceiverHistory.{RecvPast, end_of}
