@@ -28,8 +28,12 @@ pub fn write_beside<D: Depot>(
 ) -> Result<(), DepotFail>
     requires other { bytes_eq path.now log_path ≡ false }
     requires spots { (D.state depot.old).spots ≡ [] }
-    ensures images { (version : ℕ) (T : List File) (fs : List NamedFile) (end size : ℕ) → IfTold (λ t. LogOf version fs end t.now) (D.state depot.old).told → IfTold (λ t. AllFit T t.now) (D.state depot.old).told → IfTold (λ t. MayWrite path.now size offset (length bytes.now) fs t.now) (D.state depot.old).told → GoodSince T [] (D.state depot.old).told (D.state depot.new).told }
-    ensures log { (version : ℕ) (fs : List NamedFile) (end : ℕ) → IfTold (λ t. LogOf version fs end t.now) (D.state depot.old).told → IfTold (λ t. LogOf version fs end t.now) (D.state depot.new).told }
+    ensures images { (version : ℕ) (T : List File) (fs : List NamedFile) (end size : ℕ) →
+        IfTold (λ t. LogOf version fs end t.now) (D.state depot.old).told → IfTold (λ t. AllFit T t.now) (D.state depot.old).told →
+        IfTold (λ t. MayWrite path.now size offset (length bytes.now) fs t.now) (D.state depot.old).told →
+        GoodSince T [] (D.state depot.old).told (D.state depot.new).told }
+    ensures log { (version : ℕ) (fs : List NamedFile) (end : ℕ) → IfTold (λ t. LogOf version fs end t.now) (D.state depot.old).told →
+        IfTold (λ t. LogOf version fs end t.now) (D.state depot.new).told }
     ensures step { OneStep (MayDo (wrote path.now offset bytes.now) result) (D.state depot.old).told (D.state depot.new).told }
     ensures memory { IsErrOf result DepotFail.NoMemory → (D.state depot.new).told ≡ (D.state depot.old).told }
     ensures up { OnOk result ((D.state depot.new).stop.struck ≡ None) }

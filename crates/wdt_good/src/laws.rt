@@ -52,14 +52,20 @@ pub fn a_disk_with_no_new_image_stays_good()
 pub fn good_images_join()
     ensures joined { (T : List File) (f g : List (List ℕ)) (a b c : Option Told) → GoodSince T f a b → GoodSince T g b c → GoodSince T (f ++ g) a c }
     ensures fits { (T : List File) (forgotten : List (List ℕ)) (a b : Option Told) → IfTold (λ t. AllFit T t.now) a → GoodSince T forgotten a b → IfTold (λ t. AllFit T t.now) b }
-    ensures names { (T : List File) (forgotten : List (List ℕ)) (a b : Option Told) (path : List ℕ) → GoodSince T forgotten a b → IsRemembered forgotten path → IfTold (λ t. LoggedName t.now path) a → IfTold (λ t. LoggedName t.now path) b }
-    ensures covers { (T : List File) (forgotten : List (List ℕ)) (a b : Option Told) (path : List ℕ) (k : ℕ) → GoodSince T forgotten a b → IsRemembered forgotten path → IfTold (λ t. LoggedAt t.now path k) a → IfTold (λ t. LoggedAt t.now path k) b }
+    ensures names { (T : List File) (forgotten : List (List ℕ)) (a b : Option Told) (path : List ℕ) → GoodSince T forgotten a b →
+        IsRemembered forgotten path → IfTold (λ t. LoggedName t.now path) a → IfTold (λ t. LoggedName t.now path) b }
+    ensures covers { (T : List File) (forgotten : List (List ℕ)) (a b : Option Told) (path : List ℕ) (k : ℕ) → GoodSince T forgotten a b →
+        IsRemembered forgotten path → IfTold (λ t. LoggedAt t.now path k) a → IfTold (λ t. LoggedAt t.now path k) b }
 {}
 
 /// A changing call of a depot whose change leaves good images leaves good images, also where it fails.
 pub fn a_call_of_a_good_change_is_good()
-    ensures call { (T : List File) (forgotten : List (List ℕ)) (done : Disk → Disk) (result : Result (Unit {0}) DepotFail) (a b : Option Told) → IfTold (λ t. AllFit T t.now) a → IfTold (λ t. AllGood T forgotten t.now (done t.now)) a → OneStep (MayDo done result) a b → GoodSince T forgotten a b }
-    ensures sync { (T : List File) (forgotten : List (List ℕ)) (done : Disk → Disk) (result : Result (Unit {0}) Failed) (a b : Option Told) → IfTold (λ t. AllFit T t.now) a → IfTold (λ t. AllGood T forgotten t.now (done t.now)) a → OneStep (MayDo done result) a b → GoodSince T forgotten a b }
+    ensures call { (T : List File) (forgotten : List (List ℕ)) (done : Disk → Disk) (result : Result (Unit {0}) DepotFail) (a b : Option Told) →
+        IfTold (λ t. AllFit T t.now) a → IfTold (λ t. AllGood T forgotten t.now (done t.now)) a → OneStep (MayDo done result) a b →
+        GoodSince T forgotten a b }
+    ensures sync { (T : List File) (forgotten : List (List ℕ)) (done : Disk → Disk) (result : Result (Unit {0}) Failed) (a b : Option Told) →
+        IfTold (λ t. AllFit T t.now) a → IfTold (λ t. AllGood T forgotten t.now (done t.now)) a → OneStep (MayDo done result) a b →
+        GoodSince T forgotten a b }
 {}
 
 /// While a log leads from some files to others and all else stays, each image is good for what was
@@ -126,8 +132,10 @@ pub fn a_sync_beside_the_log_keeps_all()
 /// Where the files that a batch leads to are good as they are read, and of each a crash leaves what is
 /// read or it is in the log as it is, they are good in each image, and the disk is ready for the batch.
 pub fn what_is_synced_is_ready()
-    ensures files { (version : ℕ) (T : List File) (fs gs : List NamedFile) (end : ℕ) (d : Disk) (i : Image) → LogOf version fs end d → AllFit T d → GoodFiles T (seen_of d) gs → AreStill fs gs d → IsImage d i → GoodFiles T i gs }
-    ensures ready { (version : ℕ) (T : List File) (fs gs : List NamedFile) (end : ℕ) (es : List LogEntry) (d : Disk) → LogOf version fs end d → AllFit T d → GoodFiles T (seen_of d) gs → AreStill fs gs d → all_added version fs es ≡ Some gs → IsReady version T fs gs es d }
+    ensures files { (version : ℕ) (T : List File) (fs gs : List NamedFile) (end : ℕ) (d : Disk) (i : Image) → LogOf version fs end d → AllFit T d →
+        GoodFiles T (seen_of d) gs → AreStill fs gs d → IsImage d i → GoodFiles T i gs }
+    ensures ready { (version : ℕ) (T : List File) (fs gs : List NamedFile) (end : ℕ) (es : List LogEntry) (d : Disk) → LogOf version fs end d →
+        AllFit T d → GoodFiles T (seen_of d) gs → AreStill fs gs d → all_added version fs es ≡ Some gs → IsReady version T fs gs es d }
 {}
 
 /// What is among files is named by them, and what is covered of it is covered.
@@ -141,7 +149,10 @@ pub fn what_is_among_files_is_named()
 pub fn a_batch_is_in_what_it_leads_to()
     ensures grows { (version : ℕ) (fs gs : List NamedFile) (es : List LogEntry) (f : NamedFile) → IsTrue (is_view fs) → all_added version fs es ≡ Some gs → IsAmong f fs → GrowsIn gs f }
     ensures says { (version : ℕ) (fs gs : List NamedFile) (es : List LogEntry) → IsTrue (is_view fs) → all_added version fs es ≡ Some gs → Each (Says gs) es }
-    ensures holds { (version : ℕ) (T : List File) (i : Image) (fs gs : List NamedFile) (es : List LogEntry) → IsTrue (is_view fs) → all_added version fs es ≡ Some gs → GoodFiles T i gs → HoldsBatch version T i fs es }
-    ensures files { (version : ℕ) (T : List File) (i : Image) (fs gs : List NamedFile) (es : List LogEntry) → IsTrue (is_view fs) → all_added version fs es ≡ Some gs → GoodFiles T i fs → HoldsBatch version T i fs es → GoodFiles T i gs }
-    ensures more { (version : ℕ) (T : List File) (i : Image) (fs gs : List NamedFile) (es : List LogEntry) (e : LogEntry) → all_added version fs es ≡ Some gs → HoldsBatch version T i fs es → HoldsEntry T i gs e → HoldsBatch version T i fs (es ++ e ∷ []) }
+    ensures holds { (version : ℕ) (T : List File) (i : Image) (fs gs : List NamedFile) (es : List LogEntry) → IsTrue (is_view fs) →
+        all_added version fs es ≡ Some gs → GoodFiles T i gs → HoldsBatch version T i fs es }
+    ensures files { (version : ℕ) (T : List File) (i : Image) (fs gs : List NamedFile) (es : List LogEntry) → IsTrue (is_view fs) →
+        all_added version fs es ≡ Some gs → GoodFiles T i fs → HoldsBatch version T i fs es → GoodFiles T i gs }
+    ensures more { (version : ℕ) (T : List File) (i : Image) (fs gs : List NamedFile) (es : List LogEntry) (e : LogEntry) →
+        all_added version fs es ≡ Some gs → HoldsBatch version T i fs es → HoldsEntry T i gs e → HoldsBatch version T i fs (es ++ e ∷ []) }
 {}
