@@ -33,7 +33,7 @@ pub enum Step {
     // So many files are made; also while a file is entered, which is read then. The calls aren't kept.
     Crowd(u32),
     Hold(&'static str, u32),
-    // What was being done when it failed, and to which path and why.
+    // What failed: what the depot was at, and with which path and why.
     Says(&'static str, &'static str),
     // Beside the depot: what is to happen to a call, and what is put into the folder and found there.
     Fail(&'static str, i32),

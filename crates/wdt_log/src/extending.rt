@@ -113,7 +113,9 @@ fn cover(
     requires span { IsTrue (is_span (plain_span span)) }
     ensures memory { IfErr result (λ fail. fail ≡ LogFail.NoMemory) }
     ensures rising { OnOk result (IsTrue (is_rising (named_files touched.new.items))) }
-    ensures files { OnOk result ((n : ℕ) → laid (named_files touched.new.items) (named_files files.now) n ≡ (if number == n then option_map (have_with (plain_span span)) (laid (named_files touched.old.items) (named_files files.now) n) else laid (named_files touched.old.items) (named_files files.now) n)) }
+    ensures files { OnOk result ((n : ℕ) → laid (named_files touched.new.items) (named_files files.now) n ≡ (if number == n
+        then option_map (have_with (plain_span span)) (laid (named_files touched.old.items) (named_files files.now) n)
+        else laid (named_files touched.old.items) (named_files files.now) n)) }
 {
     let at = take_up(files, touched, number)?;
     cover_file(&mut touched[at], span)

@@ -120,7 +120,9 @@ impl Log {
 
         // At each moment, inside each write too, each image is good for the tree and for what was
         // logged before; also where a call fails.
-        ensures images { (T : List File) (gs : List NamedFile) → RestsIn self.old (D.state depot.old) → IfTold (λ t. IsReady (self.old).version T (self.old).meaning.files gs batch.now t.now) (D.state depot.old).told → GoodSince T (forgotten_of batch.now) (D.state depot.old).told (D.state depot.new).told }
+        ensures images { (T : List File) (gs : List NamedFile) → RestsIn self.old (D.state depot.old) →
+            IfTold (λ t. IsReady (self.old).version T (self.old).meaning.files gs batch.now t.now) (D.state depot.old).told →
+            GoodSince T (forgotten_of batch.now) (D.state depot.old).told (D.state depot.new).told }
 
         ensures logged { OnOk result (RestsIn self.old (D.state depot.old) → RestsIn self.new (D.state depot.new)) }
         ensures files { OnOk result (all_added (self.old).version (self.old).meaning.files batch.now ≡ Some (self.new).meaning.files) }

@@ -64,7 +64,8 @@ fn read<D: Depot>(alloc: Global, depot: &mut D, log: &Name) -> Result<Option<Vec
     requires path { log.now ≡ log_path }
     requires spots { (D.state depot.old).spots ≡ [] }
     ensures bytes { IfOk result (λ found. IfTold (λ t. MatchOption found (t.now log_path ≡ None) (λ bytes. seen_of t.now log_path ≡ Some bytes.items)) (D.state depot.old).told) }
-    ensures none { IfOk result (λ found. MatchOption found ((D.state depot.new).told ≡ (D.state depot.old).told) (λ _. Run IsSyncing (λ d x. x ≡ synced_at log_path d) (D.state depot.old).told (D.state depot.new).told)) }
+    ensures none { IfOk result (λ found. MatchOption found ((D.state depot.new).told ≡ (D.state depot.old).told)
+        (λ _. Run IsSyncing (λ d x. x ≡ synced_at log_path d) (D.state depot.old).told (D.state depot.new).told)) }
     ensures moments { Run IsSyncing IsSyncing (D.state depot.old).told (D.state depot.new).told }
     ensures exact { RanLog run_look result (D.state depot.old) (D.state depot.new) }
     ensures depot { UsesDepot result (D.state depot.old) (D.state depot.new) }

@@ -61,7 +61,8 @@ fn append_a<D: Depot>(
     requires files { (log.old).meaning.files ≡ [] }
     requires spots { (D.state depot.old).spots ≡ [] }
     ensures spots { (D.state depot.new).spots ≡ [] }
-    ensures files { IfOk result (λ done. OnOk done ((log.new).meaning.files ≡ record { number = 0; have = record { path = 97 ∷ []; size = 2; stamp = 0; spans = record { offset = 0; count = 2 } ∷ [] } } ∷ [])) }
+    ensures files { IfOk result (λ done. OnOk done ((log.new).meaning.files ≡
+        record { number = 0; have = record { path = 97 ∷ []; size = 2; stamp = 0; spans = record { offset = 0; count = 2 } ∷ [] } } ∷ [])) }
 {
     let path = Name::read(alloc, b"a")?;
     let batch = [

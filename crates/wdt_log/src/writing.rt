@@ -107,7 +107,8 @@ pub fn put_synced<D: Depot>(
     bytes: &[u8],
 ) -> Result<(), LogFail>
     requires entered { IsEntered spot.0 (D.state depot.old) }
-    ensures moments { Run (IsPut (at_spot spot.0 (D.state depot.old)) offset bytes.now) (Puts result (at_spot spot.0 (D.state depot.old)) offset bytes.now) (D.state depot.old).told (D.state depot.new).told }
+    ensures moments { Run (IsPut (at_spot spot.0 (D.state depot.old)) offset bytes.now) (Puts result (at_spot spot.0 (D.state depot.old)) offset bytes.now)
+        (D.state depot.old).told (D.state depot.new).told }
     ensures short { OnOk result (offset + length bytes.now ≤ 2 ^ 41) }
     ensures exact { RanLog (run_put (at_spot spot.0 (D.state depot.old)) offset bytes.now) result (D.state depot.old) (D.state depot.new) }
     ensures depot { UsesDepot result (D.state depot.old) (D.state depot.new) }
