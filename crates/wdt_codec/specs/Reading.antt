@@ -5,10 +5,12 @@ use Rattle.wdt_codec.specs.declared.stop.Stop.TheVariants.{NotYet, Bad}
 use Rattle.wdt_codec.specs.declared.fails.ReadFail.{ReadFail}
 use Rattle.wdt_codec.specs.declared.fails.ReadFail.TheVariants as fails
 
+-- a way to read a value: the value and the bytes behind it, or why there is none
 abbrev pub Reading : Type 0 → Type 0
 Reading A = List ℕ → Result (A × List ℕ) Stop
 
 infixl 10 ◌>>=◌
+-- the reading goes on with what was read, or stops where it stopped
 abbrev pub ◌>>=◌ : {A B : Type 0} → Result A Stop → (A → Result B Stop) → Result B Stop
 (Ok x) >>= f = f x
 (Err e) >>= f = Err e
@@ -39,6 +41,7 @@ abbrev pub byte_where : (ℕ → Bool) → Reading ℕ
 byte_where ok [] = Err NotYet
 byte_where ok (b ∷ bytes) = if ok b then Ok (b, bytes) else stopped (b ∷ bytes)
 
+-- the list of a first item and those behind it
 abbrev pub cons : {A : Type 0} → A × List A → List A
 cons (x, xs) = x ∷ xs
 
@@ -65,6 +68,7 @@ digits low high (suc n) p (b ∷ bytes) =
     else if nat_lt (high / 256 ^ n) (p * 256 + b) then stopped (b ∷ bytes)
     else digits low high n (p * 256 + b) bytes
 
+-- a number from low to high in so many bytes, high byte first
 abbrev pub number_at : ℕ → ℕ → ℕ → Reading ℕ
 number_at width low high bytes = digits low high width 0 bytes
 
@@ -84,6 +88,7 @@ Fails fails.NoMemory read = Unit {0}
 Fails fails.NotYet read = read ≡ Err NotYet
 Fails (fails.Bad left) read = read ≡ Err (Bad left)
 
+-- What a function that may want memory returned, seen by view, is what reading gives.
 abbrev pub Gives : {X Y : Type 0} → (X → Y) → Result X ReadFail → Result Y Stop → Type 0
 Gives view (Ok x) read = read ≡ Ok (view x)
 Gives view (Err e) read = Fails e read

@@ -14,13 +14,16 @@ pub record IsMessage (m : Message) : Type 0 where
   pub fits : Fits m.frame
   pub whole : length m.raw ≡ owed_by m.frame
 
+-- each of them is a message
 abbrev pub AreMessages : List Message → Type 0
 AreMessages [] = Unit {0}
 AreMessages (m ∷ ms) = IsMessage m × AreMessages ms
 
+-- the spelling of a frame, and the raw bytes behind it
 abbrev pub spell_message : Message → List ℕ
 spell_message m = spell m.frame ++ m.raw
 
+-- the bytes of messages, one behind the other
 abbrev pub stream_of : List Message → List ℕ
 stream_of [] = []
 stream_of (m ∷ ms) = spell_message m ++ stream_of ms

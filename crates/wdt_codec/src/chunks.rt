@@ -88,7 +88,7 @@ pub fn go_on(alloc: Global, partial: &mut Partial, bytes: &[u8]) -> Result<(), R
 }
 
 fn span_count(file: &FileHave) -> u32
-    requires { length file.now.spans ≤ 1310720 }
+    requires { length file.now.spans ≤ MAX_SPANS }
     ensures { result ≡ length file.now.spans }
 {
     file.spans.count() as u32

@@ -6,10 +6,7 @@ ghost use Rattle.wdt_codec.specs.Reading.{Answers};
 use crate::frames::Mark;
 use crate::numbers::number;
 use crate::stop::Stop;
-use wdt_units::{Lane, MAX_FILES, MAX_TOTAL};
-
-/// The greatest count of a lane's blocks: 2^20.
-const MAX_COUNT: u64 = 1_048_576;
+use wdt_units::{Lane, MAX_BLOCKS, MAX_FILES, MAX_TOTAL};
 
 /// A mark whose lane is from `low` to `high`.
 #[tactic(auto, unfolding(crate::specs::Frames::mark_at))]
@@ -20,7 +17,7 @@ pub fn read_mark(bytes: &[u8], low: u8, high: u8) -> Result<(Mark, &[u8]), Stop>
     ensures ranged { IfOk result (λ x. (low ≤ x.0.lane.0) × (x.0.lane.0 ≤ high)) }
 {
     let (lane, rest) = number(bytes, 1, low as u64, high as u64)?;
-    let (count, rest) = number(rest, 4, 0, MAX_COUNT)?;
+    let (count, rest) = number(rest, 4, 0, MAX_BLOCKS as u64)?;
     let mark = Mark {
         lane: Lane(lane as u8),
         count: count as u32,

@@ -10,12 +10,12 @@ use crate::paths::any_path;
 use crate::spans::read_spans;
 use std::alloc::Global;
 use wdt_ranges::FileHave;
-use wdt_units::{MAX_FILE_SIZE, MAX_PATH, Name};
+use wdt_units::{MAX_FILE_SIZE, MAX_PATH, MAX_SPANS, Name};
 
 /// A file, where room for so many spans is left.
 #[tactic(auto, unfolding(crate::specs::Chunks::file_at))]
 pub fn read_file(alloc: Global, bytes: &[u8], room: u32) -> Result<(FileHave, &[u8]), ReadFail>
-    requires { room ≤ 1310720 }
+    requires { room ≤ MAX_SPANS }
     ensures reads { Gives (λ x. (have_file x.0, x.1.now)) result (file_at room bytes.now) }
     ensures few { IfOk result (λ x. length x.0.spans ≤ room) }
 {

@@ -5,12 +5,12 @@ ghost use Rattle.wdt_codec.specs.Paths.{path_at};
 ghost use Rattle.wdt_codec.specs.Reading.{Answers, except};
 
 use crate::stop::Stop;
-use wdt_units::{PathScan, is_reserved, scan_on};
+use wdt_units::{MAX_PATH, PathScan, is_reserved, scan_on};
 
 /// The `count` bytes of a path that isn't one of the receiver's own.
 pub fn free_path(bytes: &[u8], count: usize) -> Result<(&[u8], &[u8]), Stop>
     requires some { 1 ≤ count }
-    requires most { count ≤ 1024 }
+    requires most { count ≤ MAX_PATH }
     ensures reads { Answers (λ x. (x.0.now, x.1.now)) result (except is_reserved (path_at count) bytes.now) }
     ensures lawful { IfOk result (λ x. IsTrue (is_lawful x.0.now)) }
 {
@@ -26,7 +26,7 @@ pub fn free_path(bytes: &[u8], count: usize) -> Result<(&[u8], &[u8]), Stop>
 /// The `count` bytes of a path.
 pub fn any_path(bytes: &[u8], count: usize) -> Result<(&[u8], &[u8]), Stop>
     requires some { 1 ≤ count }
-    requires most { count ≤ 1024 }
+    requires most { count ≤ MAX_PATH }
     ensures reads { Answers (λ x. (x.0.now, x.1.now)) result (path_at count bytes.now) }
     ensures lawful { IfOk result (λ x. IsTrue (is_lawful x.0.now)) }
 {

@@ -10,7 +10,7 @@ use crate::frames::Frame;
 use crate::reading::read_on;
 use std::alloc::Global;
 use std::marker::Model;
-use wdt_units::NoMemory;
+use wdt_units::{NoMemory, PIECE};
 
 /// Takes a stream in pieces, cut anywhere, and gives its frames and the raw bytes of its blocks. It
 /// is seen as the bytes that were fed and not taken, and how many bytes of the last block are owed.
@@ -104,7 +104,7 @@ impl Reader {
     pub fn piece(&mut self, count: u32) -> Result<Vec<u8>, PieceFail>
         requires some { 1 ≤ count }
         requires owed { count ≤ self.old.owed }
-        requires most { count ≤ 65536 }
+        requires most { count ≤ PIECE }
         ensures whole { IfOk result (λ v. length v.items ≡ count) }
         ensures taken { IfOk result (λ v. self.old.untaken ≡ v.items ++ self.new.untaken) }
         ensures owed { OnOk result (self.new.owed + count ≡ self.old.owed) }

@@ -9,6 +9,7 @@ use crate::numbers::number;
 use crate::stop::Stop;
 use std::alloc::Global;
 use wdt_ranges::{Ranges, Span};
+use wdt_units::MAX_FILE_SIZE;
 
 /// The spans of a file of `size` bytes, so many.
 pub fn read_spans(
@@ -17,7 +18,7 @@ pub fn read_spans(
     size: u64,
     count: u64,
 ) -> Result<(Ranges, &[u8]), ReadFail>
-    requires small { size ≤ 1099511627776 }
+    requires small { size ≤ MAX_FILE_SIZE }
     requires room { 2 * count ≤ size + 1 }
     ensures reads { Gives (λ x. (x.0, x.1.now)) result (spans_at size count 0 bytes.now) }
     ensures whole { IfOk result (λ x. length x.0 ≡ count) }
@@ -32,7 +33,7 @@ fn span_list(
     size: u64,
     count: u64,
 ) -> Result<(Vec<Span>, &[u8]), ReadFail>
-    requires small { size ≤ 1099511627776 }
+    requires small { size ≤ MAX_FILE_SIZE }
     requires room { 2 * count ≤ size + 1 }
     ensures reads { Gives (λ x. (map plain_span x.0.items, x.1.now)) result (spans_at size count 0 bytes.now) }
     ensures apart { IfOk result (λ x. IsTrue (are_apart (map plain_span x.0.items))) }
@@ -54,7 +55,7 @@ fn span_list(
 // position, and one between.
 #[tactic(auto, unfolding(crate::specs::Chunks::span_at))]
 fn read_span(bytes: &[u8], size: u64, more: u64, least: u64) -> Result<(Span, &[u8]), Stop>
-    requires small { size ≤ 1099511627776 }
+    requires small { size ≤ MAX_FILE_SIZE }
     requires room { least + 2 * more + 2 ≤ size + 1 }
     ensures reads { Answers (λ x. (plain_span x.0, x.1.now)) result (span_at size more least bytes.now) }
     ensures within { IfOk result (λ x. x.0.offset + x.0.length + 2 * more ≤ size) }

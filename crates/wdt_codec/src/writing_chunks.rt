@@ -8,7 +8,7 @@ ghost use Rattle.wdt_ranges.specs.Spans.{plain_span};
 use crate::append::{append, append_all};
 use byteorder::{BigEndian, ByteOrder};
 use wdt_ranges::{FileHave, Have, Span, Spans};
-use wdt_units::NoMemory;
+use wdt_units::{MAX_PATH, MAX_SPANS, NoMemory};
 
 /// Appends a Chunks. A failure on the way takes back what is there of it.
 pub fn append_chunks(into: &mut Vec<u8>, have: &Have) -> Result<(), NoMemory>
@@ -47,8 +47,8 @@ fn count_text(count: u32) -> [u8; 5]
 }
 
 fn append_file(into: &mut Vec<u8>, file: &FileHave) -> Result<(), NoMemory>
-    requires path { length file.now.path ≤ 1024 }
-    requires spans { length file.now.spans ≤ 1310720 }
+    requires path { length file.now.path ≤ MAX_PATH }
+    requires spans { length file.now.spans ≤ MAX_SPANS }
     ensures spelled { OnOk result (into.new.items ≡ into.old.items ++ spell_file (have_file file.now)) }
     ensures begun { OnErr result (take (length into.old.items) into.new.items ≡ into.old.items) }
 {
