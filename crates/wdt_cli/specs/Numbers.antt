@@ -3,6 +3,7 @@ use Rattle.std.specs.Prelude.{ℕ}
 use Rattle.wdt_cli.specs.declared.status.Status.{Status}
 use Rattle.wdt_cli.specs.declared.status.Status.TheVariants.{Done, Usage, SourceFault, DiskFault, Refused, OutFault, NoMemory}
 
+-- the number that a process ends with for each status
 abbrev pub code_of : Status → ℕ
 code_of Done = 0
 code_of Usage = 1

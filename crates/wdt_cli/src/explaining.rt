@@ -6,6 +6,7 @@ use std::io;
 use std::rt::Files;
 use wdt_folder::{Fault, FolderSource, OneLine};
 use wdt_sender_fsm::RefusedKind;
+use wdt_units::{MAX_BLOCKS, MAX_FILES};
 
 /// Writes one line on standard error for what went wrong, and for a wrong word the usage of its command.
 pub fn explain<R: Files + AllocGlobal + Clone + Drop>(
@@ -62,11 +63,11 @@ fn explain_refusal<R: Files + AllocGlobal + Clone + Drop>(
             "the file has more than 2^40 bytes, or those up to it have more than 2^50",
         ),
         RefusedKind::TooMany { count } => {
-            return eprintln!(rt; "wdt: {count} files, more than 262144");
+            return eprintln!(rt; "wdt: {count} files, more than {MAX_FILES}");
         }
         RefusedKind::TooManyBlocks { count } => {
             return eprintln!(rt;
-                "wdt: {count} blocks, more than 1048576: take larger blocks, or fewer files at once"
+                "wdt: {count} blocks, more than {MAX_BLOCKS}: take larger blocks, or fewer files at once"
             );
         }
         RefusedKind::Stale { path, .. } => {

@@ -19,6 +19,8 @@ const REHEARSE: &str = "  \
                                 example: wdt rehearse photos
 ";
 
+// A text that takes no memory is one constant, so the numbers stand in it: MAX_BLOCK, DEFAULT_BLOCK, and
+// a block of 1 MiB as an example.
 const PLAN: &str = "  \
   wdt plan SRC DST [--block N]  lists what the folder DST still lacks of SRC by its log,
                                 in blocks of at most N bytes: 1 to 67108864, or else

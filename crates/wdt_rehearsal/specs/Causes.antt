@@ -2,6 +2,7 @@
 use Rattle.std.specs.Prelude.{◌≡◌, ℕ, ◌<◌, List, [], length, Result, Ok, Err, Option, IfSome}
 use Rattle.wdt_units.specs.Counts.{Rises}
 use Rattle.wdt_units.specs.declared.blocks.Block.{Block}
+use Rattle.wdt_units.specs.declared.limits.TheConstants.{DEFAULT_BLOCK, MAX_BLOCKS}
 use Rattle.wdt_tree.specs.declared.entry.Entry.{Entry}
 use Rattle.wdt_tree.specs.declared.manifest.ManifestFail.TheVariants as fail
 use Rattle.wdt_tree.specs.Listing.{IsAccepted, IsRefused, Orders}
@@ -18,9 +19,9 @@ pub record HasTooManyBlocks (listing : List Entry) (count : ℕ) : Type 0 where
   pub entries : List Entry
   pub order : Orders listing entries
   pub blocks : List Block
-  pub rest : IsRest entries [] 16777216 blocks
+  pub rest : IsRest entries [] DEFAULT_BLOCK blocks
   pub long : count ≡ length blocks
-  pub over : 1048576 < count
+  pub over : MAX_BLOCKS < count
 
 -- a listing is refused for this: as no tree's, else for too many blocks. (No script and no log is read,
 -- and the receiver has no file.)

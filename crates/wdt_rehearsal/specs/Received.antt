@@ -34,9 +34,11 @@ begun_file h raw = record { path = h.path; stamp = h.stamp; bytes = raw }
 abbrev pub is_next : File → Header → Bool
 is_next file h = bytes_eq file.path h.path && file.stamp == h.stamp && length file.bytes == h.offset
 
+-- the file with these bytes behind its own
 abbrev pub grown_file : File → List ℕ → File
 grown_file file raw = record { path = file.path; stamp = file.stamp; bytes = file.bytes ++ raw }
 
+-- the files behind this one, where there are any such
 abbrev pub with_first : File → Option (List File) → Option (List File)
 with_first file None = None
 with_first file (Some files) = Some (file ∷ files)
@@ -47,6 +49,7 @@ grown [] h raw = None
 grown (file ∷ []) h raw = if is_next file h then Some (grown_file file raw ∷ []) else None
 grown (file ∷ other ∷ files) h raw = with_first file (grown (other ∷ files) h raw)
 
+-- the files landed at this stage, where there are any such
 abbrev pub at_stage : Stage → Option (List File) → Option Landing
 at_stage stage None = None
 at_stage stage (Some files) = Some (record { stage = stage; landed = files })

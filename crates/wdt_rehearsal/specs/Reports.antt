@@ -1,6 +1,7 @@
 -- What a run counts.
 use Rattle.std.specs.Prelude.{◌≡◌, ℕ, List, [], length, sum_by, Option, IfSome}
 use Rattle.wdt_units.specs.declared.blocks.Block.{Block}
+use Rattle.wdt_units.specs.declared.limits.TheConstants.{DEFAULT_BLOCK}
 use Rattle.wdt_tree.specs.declared.entry.Entry.{Entry}
 use Rattle.wdt_tree.specs.Listing.{Orders, size_of}
 use Rattle.wdt_tree.specs.Rest.{IsRest}
@@ -11,11 +12,11 @@ abbrev pub report_of : List Entry → ℕ → Report
 report_of entries blocks = record { files = length entries; blocks = blocks; bytes = sum_by size_of entries }
 
 -- A run counted a tree's files, in the order of their paths: those of the listing, where it is told.
--- Its blocks are what was to be sent of them to a destination that has nothing, in blocks of 16,777,216
--- bytes.
+-- Its blocks are what was to be sent of them to a destination that has nothing, in blocks of the length
+-- that stands where nothing else is said.
 pub record IsReportFor (listing : Option (List Entry)) (report : Report) : Type 0 where
   pub entries : List Entry
   pub order : IfSome listing (λ listed. Orders listed entries)
   pub blocks : List Block
-  pub rest : IsRest entries [] 16777216 blocks
+  pub rest : IsRest entries [] DEFAULT_BLOCK blocks
   pub is : report ≡ report_of entries (length blocks)

@@ -3,6 +3,7 @@ use Rattle.std.specs.Prelude.{◌≡◌, ℕ, ◌+◌, ◌-◌, ◌<◌, ◌≤�
 use Rattle.wdt_units.specs.Tree.{File, file_of}
 use Rattle.wdt_units.specs.declared.blocks.Block.{Block}
 use Rattle.wdt_units.specs.declared.blocks.Header.{Header}
+use Rattle.wdt_units.specs.declared.limits.TheConstants.{MAX_BLOCK}
 use Rattle.wdt_tree.specs.declared.entry.Entry.{Entry}
 use Rattle.wdt_tree.specs.Shown.{entry_of_file}
 use Rattle.wdt_source.specs.Told.{IsRead}
@@ -24,13 +25,13 @@ file_with entry bytes = record { path = entry.path; stamp = entry.stamp; bytes =
 abbrev pub Follow : ℕ → ℕ → List Block → Type 0
 Follow offset size [] = offset ≡ size
 Follow offset size (block ∷ blocks) =
-    (block.offset ≡ offset) × (1 ≤ block.length) × (block.length ≤ 67108864) × (offset + block.length ≤ size) × Follow (offset + block.length) size blocks
+    (block.offset ≡ offset) × (1 ≤ block.length) × (block.length ≤ MAX_BLOCK) × (offset + block.length ≤ size) × Follow (offset + block.length) size blocks
 
 -- blocks that follow each other from a file's start to its end; an empty file has one without a byte
 abbrev pub AreBlocks : Entry → List Block → Type 0
 AreBlocks entry [] = ⊥
 AreBlocks entry (block ∷ blocks) =
-    (block.offset ≡ 0) × (min 1 entry.size ≤ block.length) × (block.length ≤ 67108864) × (block.length ≤ entry.size) × Follow block.length entry.size blocks
+    (block.offset ≡ 0) × (min 1 entry.size ≤ block.length) × (block.length ≤ MAX_BLOCK) × (block.length ≤ entry.size) × Follow block.length entry.size blocks
 
 -- one block was taken, with the told file's bytes
 pub record Sends (told : Option (List File)) (header : Header) (old new : Landing) : Type 0 where

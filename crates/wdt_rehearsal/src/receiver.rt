@@ -158,7 +158,8 @@ impl Receiver {
     // Goes on by a frame and, behind a block, its bytes.
     fn step(&mut self, frame: Frame) -> Result<(), TakeFail>
         requires { self.old.reader.owed ≡ owed_by frame }
-        ensures stepped { owed_by frame ≤ length self.old.reader.untaken → Steps (after_frame self.old.stage (progress self.old).landed frame (take (owed_by frame) self.old.reader.untaken)) result (progress self.new) }
+        ensures stepped { owed_by frame ≤ length self.old.reader.untaken →
+            Steps (after_frame self.old.stage (progress self.old).landed frame (take (owed_by frame) self.old.reader.untaken)) result (progress self.new) }
         ensures left { OnOk result (self.new.reader ≡ record { untaken = drop (owed_by frame) self.old.reader.untaken; owed = 0 }) }
     {
         self.stage = match frame {
@@ -187,7 +188,8 @@ impl Receiver {
     // Takes a block's bytes into the file that it begins or goes on.
     fn land(&mut self, files: u32, bytes: u64, header: Header) -> Result<(), TakeFail>
         requires { self.old.reader.owed ≡ header.length }
-        ensures landed { header.length ≤ length self.old.reader.untaken → Steps (after_block files bytes (progress self.old).landed header (take header.length self.old.reader.untaken)) result (progress self.new) }
+        ensures landed { header.length ≤ length self.old.reader.untaken →
+            Steps (after_block files bytes (progress self.old).landed header (take header.length self.old.reader.untaken)) result (progress self.new) }
         ensures left { OnOk result (self.new.reader ≡ record { untaken = drop header.length self.old.reader.untaken; owed = 0 }) }
     {
         let length = header.length as u64;

@@ -22,13 +22,13 @@ use wdt_codec::{Frame, Settings, encode};
 use wdt_ranges::Have;
 use wdt_source::{Source, SourceFail};
 use wdt_tree::{Entry, Manifest, Plain};
-use wdt_units::{Block, Conn, Header, Lane, MAX_BLOCK, MAX_FILE_SIZE, Name};
+use wdt_units::{Block, Conn, DEFAULT_BLOCK, Header, Lane, MAX_BLOCK, MAX_FILE_SIZE, Name};
 
 /// How many bytes a whole block has.
-pub const BLOCK: u32 = 16_777_216;
+pub const BLOCK: u32 = DEFAULT_BLOCK;
 
 /// The list of bytes is cleared once it holds this many.
-const KEEP: usize = 16_777_216;
+const KEEP: usize = DEFAULT_BLOCK as usize;
 
 /// A session that has begun: the receiving half has taken the settings, and has told what it has.
 #[derive(Drop)]
@@ -231,7 +231,8 @@ fn send_block<S: Source>(
     requires most { count ≤ MAX_BLOCK }
     requires within { IfSome (S.told source.old) (λ files. is_within_file files entry.now.path offset count ≡ true) }
     requires idle { receiver.old.reader ≡ nothing_held }
-    requires may_come { (bytes : List ℕ) → length bytes ≡ count → IsSome (after_frame (progress receiver.old).stage (progress receiver.old).landed (frames.Block (header_at entry.now offset count)) bytes) }
+    requires may_come { (bytes : List ℕ) → length bytes ≡ count →
+        IsSome (after_frame (progress receiver.old).stage (progress receiver.old).landed (frames.Block (header_at entry.now offset count)) bytes) }
     ensures sent { OnOk result (Sends (S.told source.old) (header_at entry.now offset count) (progress receiver.old) (progress receiver.new)) }
     ensures idle { OnOk result (receiver.new.reader ≡ nothing_held) }
     ensures told { S.told source.new ≡ S.told source.old }
