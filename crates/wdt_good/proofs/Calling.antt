@@ -5,12 +5,12 @@ use Rattle.std.specs.Result.{IsErrAnd}
 use Rattle.std.specs.Str.{bytes_eq}
 use Rattle.wdt_units.specs.Tree.{File}
 use Rattle.wdt_units.specs.declared.failures.Failed.{Failed}
-use Rattle.wdt_depot.specs.Disk.{Disk, IsSoundDisk, synced_at, write_file, wrote}
+use Rattle.wdt_depot.specs.Disk.{Disk, IsSoundDisk, clean, made, synced_at, write_file, wrote}
 use Rattle.wdt_depot.specs.Moments.{IfTold, MayDo, OneStep, Run, Told}
 use Rattle.wdt_depot.specs.State.{State}
 use Rattle.wdt_depot.specs.declared.failure.DepotFail.{DepotFail}
 use Rattle.wdt_depot.proofs.ForCallers.{may_either, run_start, since_more, since_now, since_weaker, with_file-other}
-use Rattle.wdt_logfmt.specs.View.{NamedFile}
+use Rattle.wdt_logfmt.specs.View.{NamedFile, names}
 use Rattle.wdt_good.specs.Changing.{MayWrite}
 use Rattle.wdt_good.specs.Good.{log_path}
 use Rattle.wdt_good.specs.LogState.{LogOf}
@@ -18,7 +18,7 @@ use Rattle.wdt_good.specs.Logged.{AllFit, AllGood, GoodSince}
 use Rattle.wdt_good.specs.Sweeping.{IsStill, Keeps, Syncs}
 use Rattle.wdt_good.proofs.Images.{fit_good}
 use Rattle.wdt_good.proofs.Moments.{call_good, fewer_good}
-use Rattle.wdt_good.proofs.Moving.{moved_good, write_moves}
+use Rattle.wdt_good.proofs.Moving.{make_moves, moved_good, write_moves}
 use Rattle.wdt_good.proofs.Resting.{log_stays}
 use Rattle.wdt_good.proofs.Sweeping.{keeps_itself, sync_keeps, sync_still}
 
@@ -58,6 +58,26 @@ module _ (version : ℕ) (fs : List NamedFile) (end : ℕ) (path : List ℕ) (of
   write_rests (Some t) (Some u) other step log = elim (may_either (wrote path offset bytes) r t.now u.now step.0) [
     | inl is ↦ subst (LogOf version fs end) (sym is) log
     | inr is ↦ subst (LogOf version fs end) (sym is) (log_stays version fs end t.now log (wrote path offset bytes t.now) (with_file-other path log_path (option_map (write_file offset bytes) (t.now path)) t.now other))
+  ]
+
+-- ---- a make
+
+module _ (version : ℕ) (fs : List NamedFile) (end : ℕ) (path : List ℕ) (r : Result (Unit {0}) DepotFail) where
+  pub make_since : (T : List File) (a b : Option Told) → IfTold (λ t. IsSoundDisk t.now) a → bytes_eq path log_path ≡ false → names fs path ≡ false → IfTold (λ t. LogOf version fs end t.now) a → IfTold (λ t. AllFit T t.now) a
+      → OneStep (MayDo (made path) r) a b → GoodSince T [] a b
+  make_since T a b sound other none log fit step = call_good T [] (made path) r a b fit (go a sound log fit) step
+    where
+      go : (o : Option Told) → IfTold (λ t. IsSoundDisk t.now) o → IfTold (λ t. LogOf version fs end t.now) o → IfTold (λ t. AllFit T t.now) o → IfTold (λ t. AllGood T [] t.now (made path t.now)) o
+      go None s l f = tt
+      go (Some t) s l f = moved_good version T [] fs end t.now (made path t.now) l f (make_moves path fs t.now none T s other)
+
+  pub make_rests : (a b : Option Told) → bytes_eq path log_path ≡ false → OneStep (MayDo (made path) r) a b → IfTold (λ t. LogOf version fs end t.now) a → IfTold (λ t. LogOf version fs end t.now) b
+  make_rests None None other step log = tt
+  make_rests None (Some u) other step log = absurd step
+  make_rests (Some t) None other step log = absurd step
+  make_rests (Some t) (Some u) other step log = elim (may_either (made path) r t.now u.now step.0) [
+    | inl is ↦ subst (LogOf version fs end) (sym is) log
+    | inr is ↦ subst (LogOf version fs end) (sym is) (log_stays version fs end t.now log (made path t.now) (with_file-other path log_path (Some (clean [])) t.now other))
   ]
 
 -- ---- a sync

@@ -1,4 +1,4 @@
--- The programs of the log's calls, in the order in which they are made.
+-- The programs of calls on files and on the log, in the order in which they are made.
 use Rattle.std.specs.Prelude.{ℕ, ◌+◌, Bool, List, [], ◌∷◌, Option, Some, None}
 use Rattle.wdt_depot.specs.Disk.{DiskFile}
 use Rattle.wdt_depot.specs.Programs.{Drive, both, looking, run_make, run_place, run_sync, run_write}
@@ -8,6 +8,10 @@ use Rattle.wdt_good.specs.Good.{log_path, new_log_path}
 -- bytes are written to a file, and synced
 abbrev pub run_put : List ℕ → ℕ → List ℕ → Drive → Bool × Drive
 run_put path offset bytes = both (run_write path offset bytes) (run_sync path)
+
+-- bytes are written to a file that is entered for it
+abbrev pub run_piece : List ℕ → ℕ → List ℕ → Drive → Bool × Drive
+run_piece path offset bytes = both looking (run_write path offset bytes)
 
 -- ---- an append
 

@@ -8,14 +8,14 @@
 //! `specs/Sweeping.antt` of the syncs before a batch.
 //!
 //! Most functions are laws and do nothing: what is said in their contracts is proved, and the log, the
-//! writer and the dock stand on it. `write_beside` and `sync_beside` are calls on any depot that keep
-//! what the laws are of.
+//! writer and the dock stand on it. `make_beside`, `write_beside` and `sync_beside` are calls on any depot
+//! that keep what the laws are of.
 #![tactic(auto)]
 
 mod beside;
 mod laws;
 
-pub use beside::{sync_beside, write_beside};
+pub use beside::{make_beside, sync_beside, write_beside};
 pub use laws::{
     a_batch_is_in_what_it_leads_to, a_call_of_a_good_change_is_good,
     a_disk_with_no_new_image_stays_good, a_file_made_beside_the_named_is_good,

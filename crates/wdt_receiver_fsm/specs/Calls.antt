@@ -1,11 +1,9 @@
 -- The programs of a receiver's calls on its disk.
 use Rattle.std.specs.Prelude.{ℕ, Bool, true, List, [], ◌∷◌}
-use Rattle.wdt_depot.specs.Programs.{Drive, both, looking, run_sync, run_write}
+use Rattle.wdt_depot.specs.Programs.{Drive, both, looking, run_sync}
 use Rattle.wdt_good.specs.Calls.{run_append}
-
 -- bytes are written to a file that is entered for it
-abbrev pub run_piece : List ℕ → ℕ → List ℕ → Drive → Bool × Drive
-run_piece path offset bytes = both looking (run_write path offset bytes)
+pub use Rattle.wdt_good.specs.Calls.{run_piece}
 
 -- a file is entered and synced
 abbrev pub run_sync_file : List ℕ → Drive → Bool × Drive
