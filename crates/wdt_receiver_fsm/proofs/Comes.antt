@@ -107,7 +107,7 @@ module _ (r : PlainReceiver) (l : Lane) where
   -- ---- what the sender tells
 
   greets_so : (s : Settings) (o : Option ℕ) → settings_fault (length r.lanes) (end_of r.history).met l.0 (lane_at r l.0).conn s ≡ o → Serves r l states.ReadSettings → C (Given (inputs.Got (frames.Settings s))) (greets_with r l s o)
-  greets_so s (Some field) wrong at = fell states.ReadSettings (Given (inputs.Got (frames.Settings s))) (SettingsRead s) (peers.BadSettings field) at refl refl (WrongSettings s field refl wrong refl)
+  greets_so s (Some field) wrong at = fell states.ReadSettings (Given (inputs.Got (frames.Settings s))) (SettingsRead s) (peers.BadSettings field) at refl refl (WrongSettings s field refl refl wrong refl)
   greets_so s None right at = record { outcome = Greeted s; is = refl; of = (at, refl, right) }
 
   lists_so : (b : Bool) → (lane_at r l.0).ask ≡ b → Serves r l states.SendLocalCheckpoint → C (Given inputs.Wrote) (lists_by r l b)
@@ -115,19 +115,19 @@ module _ (r : PlainReceiver) (l : Lane) where
   lists_so false asked at = record { outcome = ReadOn r; is = refl; of = ByGreeting at refl asked }
 
   sizes_so : (files bytes : ℕ) (o : Option PeerKind) → size_fault (end_of r.history).sized files bytes ≡ o → (lane_at r l.0).is_sized ≡ false → Serves r l states.ReadNextCmd → C (Given (inputs.Got (frames.Size files bytes))) (sizes_with r l files bytes o)
-  sizes_so files bytes (Some kind) wrong sized at = fell states.ReadNextCmd (Given (inputs.Got (frames.Size files bytes))) (Size files bytes) kind at refl refl (OtherSize files bytes refl wrong)
+  sizes_so files bytes (Some kind) wrong sized at = fell states.ReadNextCmd (Given (inputs.Got (frames.Size files bytes))) (Size files bytes) kind at refl refl (OtherSize files bytes refl refl sized wrong)
   sizes_so files bytes None right sized at = record { outcome = Sized files bytes; is = refl; of = (at, sized, refl, right) }
 
   -- ---- blocks
 
   makes_so : (h : Header) (b : Bool) → is_new r.known h ≡ b → block_fault r.known (marks_at r) (begun_blocks r) (length (past_at r l.0).landed) h ≡ None → (lane_at r l.0).is_sized ≡ true → Serves r l states.ReadNextCmd → E (Given (inputs.Got (frames.Block h))) (makes_by r l h b)
   unfolding Each
-  makes_so h true new right sized at = (disk (Given (inputs.Got (frames.Block h))) r (BlockRead h) refl (OfMake h at refl new), record { outcome = Begun (knows r h) (block_of r.known h); is = refl; of = OfNew h at sized refl right new })
+  makes_so h true new right sized at = (disk (Given (inputs.Got (frames.Block h))) r (BlockRead h) refl (OfMake h at sized refl right new), record { outcome = Begun (knows r h) (block_of r.known h); is = refl; of = OfNew h at sized refl right new })
   makes_so h false new right sized at = record { outcome = Begun r (block_of r.known h); is = refl; of = OfKnown h at sized refl right new }
 
   blocks_so : (h : Header) (o : Option PeerKind) → block_fault r.known (marks_at r) (begun_blocks r) (length (past_at r l.0).landed) h ≡ o → (lane_at r l.0).is_sized ≡ true → Serves r l states.ReadNextCmd → E (Given (inputs.Got (frames.Block h))) (block_with r l h o)
   unfolding Each
-  blocks_so h (Some kind) wrong sized at = fell states.ReadNextCmd (Given (inputs.Got (frames.Block h))) (BlockRead h) kind at refl refl (WrongBlock h refl wrong)
+  blocks_so h (Some kind) wrong sized at = fell states.ReadNextCmd (Given (inputs.Got (frames.Block h))) (BlockRead h) kind at refl refl (WrongBlock h refl refl sized wrong)
   blocks_so h None right sized at = makes_so h (is_new r.known h) refl right sized at
 
   logs_so : (bytes : List ℕ) (b : Block) (full : Bool) → is_batch_full (landed_by r l b) ≡ full → Lands r l (Bytes bytes) b → E (Bytes bytes) (logs_by (landed_by r l b) l (Piece bytes) full)

@@ -24,6 +24,7 @@ use Rattle.wdt_receiver_fsm.specs.Ready.{is_closed, is_idle, is_ready, rests}
 use Rattle.wdt_receiver_fsm.specs.Receiver.{Fares, FaresAt, GoesOn, IsReceiver, IsSized, terms_of}
 use Rattle.wdt_receiver_fsm.specs.ReceiverHistory.{EndPast, RecvPast, end_after, end_from, end_of, end_of-append, first_of, has_fault_after, lane_of, past_after, past_of, past_of-append}
 use Rattle.wdt_receiver_fsm.specs.Turn.{knows, lands}
+use Rattle.wdt_receiver_fsm.proofs.Judged.{Told, legal_put, legal_terms}
 use Rattle.wdt_receiver_fsm.proofs.Keeping.{Stays, end_behind, end_same, is_quiet, judged_fails, notes_quiet, other_past}
 use Rattle.wdt_receiver_fsm.proofs.Touching.{set_other}
 
@@ -127,7 +128,7 @@ module _ (f : Bool) (lane : RecvLane) (p : RecvPast) (e d : EndPast) (met : e.me
   fares_more states.TakeBlock h = (serves_more h.0, h.1, h.2, sized h.3)
   fares_more states.SendWait h = (waits_more h.0, h.1)
   fares_more states.WaitForFinish h = (waits_more h.0, h.1)
-  fares_more states.SendGlobalCheckpoint h = (serves_more h.0, h.1, h.2, sized h.3)
+  fares_more states.SendGlobalCheckpoint h = (serves_more h.0, h.1, h.2, sized h.3, h.4)
   fares_more states.SendDone h = concludes_more h
   fares_more states.ReadAck h = concludes_more h
   fares_more states.SendAbort h = h
@@ -261,11 +262,11 @@ fails_so t l a fails stays = record {
 -- ---- what else a step does
 
 -- the lane is put, and another step goes on from there
-pub puts_so : (t : PlainReceiver) (l : Lane) (lane : RecvLane) → Stays t l → Stays (with_lane t l.0 lane) l
-puts_so t l lane stays = record {
+pub puts_so : (t : PlainReceiver) (l : Lane) (lane : RecvLane) → Told t l lane → Stays t l → Stays (with_lane t l.0 lane) l
+puts_so t l lane conn stays = record {
   few = subst (λ (n : ℕ). n ≤ 16) (sym (length-set t.lanes l.0 lane)) stays.few;
   within = subst (λ (n : ℕ). l.0 < n) (sym (length-set t.lanes l.0 lane)) stays.within;
-  legal = subst (λ (n : ℕ). IsLegal record { lanes = n; opening = t.opening; known = t.known } t.history) (sym (length-set t.lanes l.0 lane)) stays.legal;
+  legal = legal_put t l lane conn stays.legal;
   others = λ j below ne.
       subst (λ (y : RecvLane). Fares (is_failure (with_lane t l.0 lane).answer) y.state y (past_at t j) (end_of t.history)) (sym (ap Rattle.wdt_receiver_fsm.specs.PlainReceiver.lane_or_ended (set_other t.lanes l.0 j lane ne)))
       (subst (λ (b : Bool). Fares b (lane_at t j).state (lane_at t j) (past_at t j) (end_of t.history)) (sym (judged_fails t.answer _ _)) (stays.others j (subst (λ (n : ℕ). j < n) (length-set t.lanes l.0 lane) below) ne));
@@ -283,44 +284,11 @@ none_left t (b ∷ bs) is = refl
 
 -- ---- files that are known
 
-fault_later : (s : EndPast) (es : List RecvEvent) → s.has_fault ≡ true → (end_from s es).has_fault ≡ true
-fault_later s [] h = h
-fault_later s (e ∷ es) h = fault_later (end_after s e) es (stays_fault s e h)
-  where
-    stays_fault : (s : EndPast) (e : RecvEvent) → s.has_fault ≡ true → has_fault_after s.has_fault e ≡ true
-    stays_fault s (events.Abort l code) h = refl
-    stays_fault s (events.Peer l kind) h = refl
-    stays_fault s e h = h
-
--- where no fault was noted, a legal history says nothing of the known files
-known_allowed : (t : Terms) (k : List (Option KnownFile)) (g : List RecvEvent) (e : RecvEvent) → (end_after (end_of g) e).has_fault ≡ false → IsAllowed t g e → IsAllowed (record t { known = k }) g e
-known_allowed t k g (events.Peer l kind) calm a = cc
-known_allowed t k g (events.Abort l code) calm a = cc
-known_allowed t k g (events.Begin l b) calm a = record { fault = a.fault; speaks = a.speaks; fits = record { finish = a.fits.finish; idle = a.fits.idle; begun = a.fits.begun; few = a.fits.few; clear = a.fits.clear } }
-known_allowed t k g events.Finish calm a = record { fault = a.fault; speaks = a.speaks; fits = record { first = a.fits.first; ready = a.fits.ready; whole = a.fits.whole } }
-known_allowed t k g e calm a = record { fault = a.fault; speaks = a.speaks; fits = a.fits }
-
-no_fault_here : (g : List RecvEvent) (e : RecvEvent) (es : List RecvEvent) → (end_of (g ++ e ∷ es)).has_fault ≡ false → (end_after (end_of g) e).has_fault ≡ false
-no_fault_here g e es calm = go ((end_after (end_of g) e).has_fault) refl
-  where
-    go : (b : Bool) → (end_after (end_of g) e).has_fault ≡ b → (end_after (end_of g) e).has_fault ≡ false
-    go false is = is
-    go true is = absurd (both_ways _ (sym (ap (λ (x : EndPast). x.has_fault) (end_of-append g (e ∷ es))) ∙ calm) (fault_later (end_after (end_of g) e) es is))
-
-legal_known_from : (t : Terms) (k : List (Option KnownFile)) (b g : List RecvEvent) → (end_of (b ++ g)).has_fault ≡ false → legal_from t b g → legal_from (record t { known = k }) b g
-legal_known_from t k b [] calm legal = tt
-legal_known_from t k b (e ∷ g) calm legal =
-    (known_allowed t k b e (no_fault_here b e g calm) legal.0, legal_known_from t k (b ++ e ∷ []) g (ap (λ (h : List RecvEvent). (end_of h).has_fault) (append_assoc b (e ∷ []) g) ∙ calm) legal.1)
-
-pub legal_known : (t : Terms) (k : List (Option KnownFile)) (g : List RecvEvent) → (end_of g).has_fault ≡ false → IsLegal t g → IsLegal (record t { known = k }) g
-unfolding IsLegal
-legal_known t k g calm legal = legal_known_from t k [] g calm legal
-
 pub knows_so : (t : PlainReceiver) (l : Lane) (h : Header) → is_failure t.answer ≡ false → Stays t l → Stays (knows t h) l
 knows_so t l h sound stays = record {
   few = stays.few;
   within = stays.within;
-  legal = legal_known (terms_of t) (knows t h).known t.history (stays.faultless sound) stays.legal;
+  legal = legal_terms (terms_of t) (knows t h).known (terms_of t).conns t.history (stays.faultless sound) stays.legal;
   others = stays.others;
   faultless = stays.faultless;
   finished = stays.finished;

@@ -1,13 +1,19 @@
 -- A turn's plan, part by part, for the proofs of the crates that make its calls.
-use Rattle.std.proofs.Common.{◌≡◌, inl, inr, Bool, true, false, List, [], ◌∷◌, ◌++◌, Option, Some, None, ℕ, ap, ◌∙◌, refl, sym}
+use Rattle.std.proofs.Common.{◌≡◌, inl, inr, Bool, true, false, List, [], ◌∷◌, ◌++◌, Option, Some, None, ℕ, zero, suc, ◌-◌, length, ap, ◌∙◌, refl, subst, sym}
 use Rattle.std.specs.Prelude.{option_map}
 use Rattle.std.proofs.lemmas.Option.{same_Some}
 use Rattle.wdt_units.specs.declared.blocks.Block.{Block}
+use Rattle.wdt_units.specs.declared.numbers.Lane.{Lane}
 use Rattle.wdt_depot.specs.Programs.{Calls, Drive, both, onward}
-use Rattle.wdt_receiver_fsm.specs.Calls.{run_sync_file, run_syncs}
+use Rattle.wdt_logfmt.specs.Batches.{path_at}
+use Rattle.wdt_receiver_fsm.specs.declared.states.RecvState.TheVariants as states
+use Rattle.wdt_receiver_fsm.specs.Calls.{run_piece, run_sync_file, run_syncs}
 use Rattle.wdt_receiver_fsm.specs.Logging.{all_logged, all_logged_by, flush_by, flush_calls, flush_calls_by, flush_plan, flushed}
+use Rattle.wdt_receiver_fsm.specs.Outcomes.{landed_by}
 use Rattle.wdt_receiver_fsm.specs.Plan.{EndsIn, Plan, PlanRan, calls, ends, run_plan, went}
-use Rattle.wdt_receiver_fsm.specs.PlainReceiver.{PlainReceiver}
+use Rattle.wdt_receiver_fsm.specs.PlainReceiver.{PlainReceiver, goes, is_batch_full, lane_at}
+use Rattle.wdt_receiver_fsm.specs.Rows.{Piece, Row}
+use Rattle.wdt_receiver_fsm.specs.Turn.{Step, disk_fails, logs, logs_by, next_place, piece_by, piece_of, reads, reads_on, takes_piece}
 
 -- ---- plans
 
@@ -100,3 +106,78 @@ module _ {S : Type 0} (r : PlainReceiver) (broken : S) (next : PlainReceiver →
 
   pub ends_broken : (Fails : Type 0) (x : S) → Fails → (r.unlogged ≡ [] → ⊥) → x ≡ broken → EndsIn Fails (flush_plan r broken next) x
   ends_broken Fails x why some is = ends_broken_by Fails r.unlogged x why some is
+
+-- ---- plans that are the same
+
+-- a turn by another name of its plan
+pub plan_as : {S : Type 0} (plan other : Plan S) (x : S) (a b : Option Drive) → plan ≡ other → PlanRan other x a b → PlanRan plan x a b
+plan_as {S} plan other x a b same ran = subst (λ (p : Plan S). PlanRan p x a b) (sym same) ran
+
+pub ends_as : {S : Type 0} (Fails : Type 0) (plan other : Plan S) (x : S) → plan ≡ other → EndsIn Fails other x → EndsIn Fails plan x
+ends_as {S} Fails plan other x same h = subst (λ (p : Plan S). EndsIn Fails p x) (sym same) h
+
+-- ---- what landed is logged, where it is time
+
+module _ (r : PlainReceiver) (l : Lane) (row : Row) where
+  -- it isn't
+  pub logs_none : (a : Option Drive) → is_batch_full r ≡ false → PlanRan (logs r l row) (reads (goes r l.0 states.ReadNextCmd)) a a
+  logs_none a room =
+      plan_as (logs r l row) (reads_on l r) (reads (goes r l.0 states.ReadNextCmd)) a a (ap (λ (b : Bool). logs_by r l row b) room)
+      (plan_ends (reads (goes r l.0 states.ReadNextCmd)) (reads (goes r l.0 states.ReadNextCmd)) a refl)
+
+  -- it is, and the flush went well
+  pub logs_well : (a b : Option Drive) → is_batch_full r ≡ true → Calls (flush_calls r) true a b → PlanRan (logs r l row) (reads (goes (all_logged r) l.0 states.ReadNextCmd)) a b
+  logs_well a b full called =
+      plan_as (logs r l row) (flush_plan r (disk_fails r l row) (reads_on l)) (reads (goes (all_logged r) l.0 states.ReadNextCmd)) a b (ap (λ (x : Bool). logs_by r l row x) full)
+      (flush_well r (disk_fails r l row) (reads_on l) (reads (goes (all_logged r) l.0 states.ReadNextCmd)) a b b called
+      (plan_ends (reads (goes (all_logged r) l.0 states.ReadNextCmd)) (reads (goes (all_logged r) l.0 states.ReadNextCmd)) b refl))
+
+  -- a call of it failed
+  pub logs_broken : (a b : Option Drive) → is_batch_full r ≡ true → Calls (flush_calls r) false a b → PlanRan (logs r l row) (disk_fails r l row) a b
+  logs_broken a b full called =
+      plan_as (logs r l row) (flush_plan r (disk_fails r l row) (reads_on l)) (disk_fails r l row) a b (ap (λ (x : Bool). logs_by r l row x) full) (flush_broken r (disk_fails r l row) (reads_on l) a b called)
+
+  pub logs_end_none : (Fails : Type 0) → is_batch_full r ≡ false → EndsIn Fails (logs r l row) (reads (goes r l.0 states.ReadNextCmd))
+  logs_end_none Fails room = ends_as Fails (logs r l row) (reads_on l r) (reads (goes r l.0 states.ReadNextCmd)) (ap (λ (b : Bool). logs_by r l row b) room) refl
+
+  pub logs_end_well : (Fails : Type 0) → is_batch_full r ≡ true → EndsIn Fails (logs r l row) (reads (goes (all_logged r) l.0 states.ReadNextCmd))
+  logs_end_well Fails full =
+      ends_as Fails (logs r l row) (flush_plan r (disk_fails r l row) (reads_on l)) (reads (goes (all_logged r) l.0 states.ReadNextCmd)) (ap (λ (b : Bool). logs_by r l row b) full)
+      (ends_well r (disk_fails r l row) (reads_on l) Fails (reads (goes (all_logged r) l.0 states.ReadNextCmd)) refl)
+
+  pub logs_end_broken : (Fails : Type 0) → Fails → is_batch_full r ≡ true → (r.unlogged ≡ [] → ⊥) → EndsIn Fails (logs r l row) (disk_fails r l row)
+  logs_end_broken Fails why full some =
+      ends_as Fails (logs r l row) (flush_plan r (disk_fails r l row) (reads_on l)) (disk_fails r l row) (ap (λ (b : Bool). logs_by r l row b) full) (ends_broken r (disk_fails r l row) (reads_on l) Fails (disk_fails r l row) why some refl)
+
+-- ---- a piece of a block
+
+module _ (r : PlainReceiver) (l : Lane) (bytes : List ℕ) (b : Block) where
+  abbrev piece_calls : Drive → Bool × Drive
+  piece_calls = run_piece (path_at r.known b.file) (next_place b (lane_at r l.0).left) bytes
+
+  left_by : (left : ℕ) (x : Step) (c d : Option Drive) → (lane_at r l.0).left - length bytes ≡ left → PlanRan (piece_by r l b (Piece bytes) left) x c d → PlanRan (piece_by r l b (Piece bytes) ((lane_at r l.0).left - length bytes)) x c d
+  left_by left x c d is ran = subst (λ (n : ℕ). PlanRan (piece_by r l b (Piece bytes) n) x c d) (sym is) ran
+
+  -- it is written, and more is to come
+  pub piece_taken : (left : ℕ) (a c : Option Drive) → (lane_at r l.0).left - length bytes ≡ suc left → Calls piece_calls true a c → PlanRan (piece_of r l bytes b) (takes_piece r l (suc left)) a c
+  piece_taken left a c more called =
+      plan_well piece_calls (disk_fails r l (Piece bytes)) (takes_piece r l (suc left)) (piece_by r l b (Piece bytes) ((lane_at r l.0).left - length bytes)) a c c called
+      (left_by (suc left) (takes_piece r l (suc left)) c c more (plan_ends (takes_piece r l (suc left)) (takes_piece r l (suc left)) c refl))
+
+  -- it is written and lands the block, and what landed may be logged
+  pub piece_landed : (x : Step) (a c d : Option Drive) → (lane_at r l.0).left - length bytes ≡ 0 → Calls piece_calls true a c → PlanRan (logs (landed_by r l b) l (Piece bytes)) x c d → PlanRan (piece_of r l bytes b) x a d
+  piece_landed x a c d last called ran =
+      plan_well piece_calls (disk_fails r l (Piece bytes)) x (piece_by r l b (Piece bytes) ((lane_at r l.0).left - length bytes)) a c d called (left_by 0 x c d last ran)
+
+  -- it couldn't be written
+  pub piece_broken : (a c : Option Drive) → Calls piece_calls false a c → PlanRan (piece_of r l bytes b) (disk_fails r l (Piece bytes)) a c
+  piece_broken a c called = plan_broken piece_calls (disk_fails r l (Piece bytes)) (piece_by r l b (Piece bytes) ((lane_at r l.0).left - length bytes)) a c called
+
+  pub piece_end_taken : (Fails : Type 0) (left : ℕ) → (lane_at r l.0).left - length bytes ≡ suc left → EndsIn Fails (piece_of r l bytes b) (takes_piece r l (suc left))
+  piece_end_taken Fails left more = inr (subst (λ (n : ℕ). EndsIn Fails (piece_by r l b (Piece bytes) n) (takes_piece r l (suc left))) (sym more) refl)
+
+  pub piece_end_landed : (Fails : Type 0) (x : Step) → (lane_at r l.0).left - length bytes ≡ 0 → EndsIn Fails (logs (landed_by r l b) l (Piece bytes)) x → EndsIn Fails (piece_of r l bytes b) x
+  piece_end_landed Fails x last h = inr (subst (λ (n : ℕ). EndsIn Fails (piece_by r l b (Piece bytes) n) x) (sym last) h)
+
+  pub piece_end_broken : (Fails : Type 0) → Fails → EndsIn Fails (piece_of r l bytes b) (disk_fails r l (Piece bytes))
+  piece_end_broken Fails why = inl (why, refl)

@@ -48,7 +48,7 @@ put_act : (t : PlainReceiver) (l : Lane) (lane : RecvLane) → l.0 < length t.la
 put_act t l lane within = ap (λ (x : RecvLane). act_in (with_lane t l.0 lane) l x x.state) (sym (lane_set t l.0 lane within))
 
 -- a failure stays
-judged_failure : (a : EndAnswer) (x y : Bool) → is_failure a ≡ true → judged a x y ≡ a
+pub judged_failure : (a : EndAnswer) (x y : Bool) → is_failure a ≡ true → judged a x y ≡ a
 judged_failure answers.Going x y fails = cc
 judged_failure answers.Done x y fails = cc
 judged_failure answers.Link x y fails = cc
@@ -85,7 +85,7 @@ marks_stay g l set (q ∷ qs) = ap (λ (m : Mark). m ∷ map (mark_of (g ++ even
 telling_is : (g : List RecvEvent) (l : Lane) (set : LaneSet) → (past_of (g ++ events.Told l set ∷ []) l.0).telling ≡ lanes_of set
 telling_is g l set = ap (λ (p : RecvPast). p.telling) (past_of-append g (events.Told l set ∷ []) l.0) ∙ rw (eq-eqb l.0 l.0 refl) refl
 
-told_lanes : (t : PlainReceiver) (l : Lane) (qs : List ℕ) → length t.lanes ≤ 16 → untold_at t l.0 ≡ qs → lanes_of (set_of qs) ≡ qs
+pub told_lanes : (t : PlainReceiver) (l : Lane) (qs : List ℕ) → length t.lanes ≤ 16 → untold_at t l.0 ≡ qs → lanes_of (set_of qs) ≡ qs
 told_lanes t l qs few is = subst (λ (xs : List ℕ). lanes_of (set_of xs) ≡ xs) is (lanes_of_some (is_untold t.history l.0) (length t.lanes) few)
 
 tells_so : (t : PlainReceiver) (l : Lane) (q : ℕ) (qs : List ℕ) → length t.lanes ≤ 16 → untold_at t l.0 ≡ q ∷ qs → l.0 < length t.lanes → Holds l (tells_by t l (q ∷ qs))
@@ -97,7 +97,7 @@ tells_so t l q qs few is within =
 
 -- ---- what a step goes on from has as many lanes
 
-idles_many : (r t : PlainReceiver) (l : Lane) (put : Put) → Idles r l put t → length t.lanes ≡ length r.lanes
+pub idles_many : (r t : PlainReceiver) (l : Lane) (put : Put) → Idles r l put t → length t.lanes ≡ length r.lanes
 idles_many r t l put (ByDone at sized given is) = ap (λ (x : PlainReceiver). length x.lanes) is ∙ length-set r.lanes l.0 record (lane_at r l.0) { has_waited = false }
 idles_many r t l put (ByWait at given is) = ap (λ (x : PlainReceiver). length x.lanes) is ∙ length-set r.lanes l.0 record (lane_at r l.0) { has_waited = true }
 idles_many r t l put (ByWaking at given is) = ap (λ (x : PlainReceiver). length x.lanes) is
@@ -106,7 +106,7 @@ logged_many : (t : PlainReceiver) (bs : List Block) → length (all_logged_by t 
 logged_many t [] = refl
 logged_many t (b ∷ bs) = refl
 
-listens_many : (r t : PlainReceiver) (l : Lane) (put : Put) → Listens r l put t → length t.lanes ≡ length r.lanes
+pub listens_many : (r t : PlainReceiver) (l : Lane) (put : Put) → Listens r l put t → length t.lanes ≡ length r.lanes
 listens_many r t l put (AtFirst at given) = refl
 listens_many r t l put (ByNoLink at given) = refl
 listens_many r t l put (ByLoss state at linked given) = length-set r.lanes l.0 record (lane_at r l.0) { is_sized = false; has_waited = false; left = 0 }
@@ -114,31 +114,31 @@ listens_many r t l put (ByLoss state at linked given) = length-set r.lanes l.0 r
 landed_many : (r : PlainReceiver) (l : Lane) (b : Block) → length (landed_by r l b).lanes ≡ length r.lanes
 landed_many r l b = length-set r.lanes l.0 record (lane_at r l.0) { left = 0 }
 
-reads_many : (r t : PlainReceiver) (l : Lane) (put : Put) → ReadsOn r l put t → length t.lanes ≡ length r.lanes
+pub reads_many : (r t : PlainReceiver) (l : Lane) (put : Put) → ReadsOn r l put t → length t.lanes ≡ length r.lanes
 reads_many r t l put (ByGreeting at given asked) = refl
 reads_many r t l put (ByChunks at given) = refl
 reads_many r t l put (ByMarks at given) = refl
 reads_many r t l put (ByLanding b lands full) = landed_many r l b
 reads_many r t l put (ByLogging b lands full) = logged_many (landed_by r l b) (landed_by r l b).unlogged ∙ landed_many r l b
 
-concludes_many : (r t : PlainReceiver) (l : Lane) (put : Put) → Concludes r l put t → length t.lanes ≡ length r.lanes
+pub concludes_many : (r t : PlainReceiver) (l : Lane) (put : Put) → Concludes r l put t → length t.lanes ≡ length r.lanes
 concludes_many r t l put (WasFinished u idles come) = idles_many r u l put idles
 concludes_many r t l put (IsFinished u why whole) = logged_many u u.unlogged ∙ idles_many r u l put why.idles
 
-begins_many : (r t : PlainReceiver) (l : Lane) (put : Put) (b : Block) → Begins r l put t b → length t.lanes ≡ length r.lanes
+pub begins_many : (r t : PlainReceiver) (l : Lane) (put : Put) (b : Block) → Begins r l put t b → length t.lanes ≡ length r.lanes
 begins_many r t l put b (OfKnown h at sized given right new) = refl
 begins_many r t l put b (OfNew h at sized given right new) = refl
 
-meets_many : (r : PlainReceiver) (l : Lane) (s : Settings) (b : Bool) → length (met_by r l s b).lanes ≡ length r.lanes
+pub meets_many : (r : PlainReceiver) (l : Lane) (s : Settings) (b : Bool) → length (met_by r l s b).lanes ≡ length r.lanes
 meets_many r l s true = refl
 meets_many r l s false = refl
 
-fails_here : (r t : PlainReceiver) (l : Lane) (put : Put) (a : EndAnswer) (mute : Bool) → Fails r l put t a mute → (length t.lanes ≡ length r.lanes) × (is_failure a ≡ true)
+pub fails_here : (r t : PlainReceiver) (l : Lane) (put : Put) (a : EndAnswer) (mute : Bool) → Fails r l put t a mute → (length t.lanes ≡ length r.lanes) × (is_failure a ≡ true)
 fails_here r t l put a mute (OfMemory m going given lives is) = (refl, refl)
 fails_here r t l put a mute (OfSender state code at reads given) = (refl, refl)
 fails_here r t l put a mute (OfPeer state kind at reads wrong) = (refl, refl)
 fails_here r t l put a mute (OfShort u kind why short) = (logged_many u u.unlogged ∙ idles_many r u l put why.idles, refl)
-fails_here r t l put a mute (OfMake h at given new) = (refl, refl)
+fails_here r t l put a mute (OfMake h at sized given right new) = (refl, refl)
 fails_here r t l put a mute (OfWrite bytes b at given begun) = (refl, refl)
 fails_here r t l put a mute (OfLog b lands full) = (landed_many r l b, refl)
 fails_here r t l put a mute (OfFinish u why) = (idles_many r u l put why.idles, refl)
@@ -150,7 +150,7 @@ sized_so r l files bytes false here within =
     ∙ put_act (noted r (events.Sized l files bytes ∷ [])) l record (lane_at r l.0) { is_sized = true } within
 
 -- the lane is one of as many
-still : (r t : PlainReceiver) (l : Lane) → length t.lanes ≡ length r.lanes → l.0 < length r.lanes → l.0 < length t.lanes
+pub still : (r t : PlainReceiver) (l : Lane) → length t.lanes ≡ length r.lanes → l.0 < length r.lanes → l.0 < length t.lanes
 still r t l many within = subst (λ (n : ℕ). l.0 < n) (sym many) within
 
 abbrev is_rest : Outcome → Bool

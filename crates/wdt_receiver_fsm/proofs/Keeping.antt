@@ -18,6 +18,7 @@ use Rattle.wdt_receiver_fsm.specs.PlainReceiver.{PlainReceiver, failed, has_fini
 use Rattle.wdt_receiver_fsm.specs.Receiver.{Fares, FaresAt, IsReceiver, terms_of}
 use Rattle.wdt_receiver_fsm.specs.ReceiverHistory.{EndPast, RecvPast, end_after, end_from, end_of, end_of-append, lane_of, past_after, past_from, past_of, past_of-append}
 use Rattle.wdt_receiver_fsm.proofs.HeldActs.{lane_set}
+use Rattle.wdt_receiver_fsm.proofs.Judged.{Told, legal_put}
 use Rattle.wdt_receiver_fsm.proofs.Touching.{set_other}
 
 -- ---- other lanes' pasts
@@ -78,12 +79,12 @@ receiver_stays r l is within = record {
 }
 
 -- the lane is put, and stands as its state says
-pub put_back : (t : PlainReceiver) (l : Lane) (lane : RecvLane) → Stays t l → Fares (is_failure t.answer) lane.state lane (past_at t l.0) (end_of t.history) → IsReceiver (with_lane t l.0 lane)
-put_back t l lane stays fares =
+pub put_back : (t : PlainReceiver) (l : Lane) (lane : RecvLane) → Told t l lane → Stays t l → Fares (is_failure t.answer) lane.state lane (past_at t l.0) (end_of t.history) → IsReceiver (with_lane t l.0 lane)
+put_back t l lane conn stays fares =
     let u : PlainReceiver = with_lane t l.0 lane in
     record {
       few = subst (λ (n : ℕ). n ≤ 16) (sym many) stays.few;
-      legal = subst (λ (n : ℕ). IsLegal record { lanes = n; opening = t.opening; known = t.known } t.history) (sym many) stays.legal;
+      legal = legal_put t l lane conn stays.legal;
       lanes = λ j below. each j (subst (λ (n : ℕ). j < n) many below) (same_or j l.0);
       faultless = λ sound. stays.faultless (sym (judged_fails t.answer _ _) ∙ sound);
       finished = stays.finished;

@@ -27,7 +27,7 @@ use Rattle.wdt_receiver_fsm.specs.declared.states.RecvLane.{RecvLane}
 use Rattle.wdt_receiver_fsm.specs.declared.states.RecvState.{RecvState}
 use Rattle.wdt_receiver_fsm.specs.declared.states.RecvState.TheVariants as states
 use Rattle.wdt_receiver_fsm.specs.Frames.{block_fault, kind_of, most_landed, settings_fault, short_fault, size_fault}
-use Rattle.wdt_receiver_fsm.specs.Legal.{IsAllowed, IsFault, IsLegal-none, IsShort, Terms}
+use Rattle.wdt_receiver_fsm.specs.Legal.{IsAllowed, IsFault, IsLegal-none, IsShort, ReadsAt, ReadsIn, Terms}
 use Rattle.wdt_receiver_fsm.specs.Logging.{all_logged, all_logged_by}
 use Rattle.wdt_receiver_fsm.specs.Outcomes.{is_linked, Outcome, Rested, Left, Warned, Failed, GivenUp, Listened, Linked, Greeted, Listed, ReadOn, Sized, Begun, Taken, Concluded, Told, Waited, Ended, Acknowledged, came_to, ComesOf, Serves, WasMute, WasTold, Lands, landed_by, Idles, ByDone, ByWait, ByWaking, Finishes, Listens, AtFirst, ByNoLink, ByLoss, ReadsOn, ByGreeting, ByChunks, ByMarks, ByLanding, ByLogging, Begins, OfKnown, OfNew, Takes, Concludes, WasFinished, IsFinished, Mistakes, NoFrame, NoPlace, WrongSettings, OtherSize, WrongBlock, Fails, OfMemory, OfSender, OfPeer, OfShort, OfMake, OfWrite, OfLog, OfFinish}
 use Rattle.wdt_receiver_fsm.specs.PlainReceiver.{PlainReceiver, begun_blocks, can_finish, failed, lane_or_ended, marks_at, new_lane, opened, has_finish, lane_at, noted, past_at, state_at, untold_at, with_lane}
@@ -40,7 +40,8 @@ use Rattle.wdt_receiver_fsm.specs.Sets.{lanes_of, set_of}
 use Rattle.wdt_receiver_fsm.specs.Turn.{Put, Given, Bytes, Step, begins_by, meets, says_done, tells_by, turn_plan, waits_by, knows, drops_lane, greets_by, idles_lane, is_used_up, lands, met_by, sized_by, leaves, tells_failure, row_at, waited_lane, given_up}
 use Rattle.wdt_receiver_fsm.proofs.Comes.{end_comes}
 use Rattle.wdt_receiver_fsm.proofs.Entries.{abort_past, acked, and_first, and_second, began, fails_noted, finish_past, none_left, notes_finish, peer_past, told, dropped, knows_so, met_past, notes_sized, sized_past, fails_so, idled, landed, logged_so, may, notes_met, puts_so, tried, took, closed, quitted}
-use Rattle.wdt_receiver_fsm.proofs.HeldActs.{lane_set}
+use Rattle.wdt_receiver_fsm.proofs.HeldActs.{lane_set, told_lanes}
+use Rattle.wdt_receiver_fsm.proofs.Judged.{conn_is}
 use Rattle.wdt_receiver_fsm.proofs.Keeping.{Stays, end_behind, end_same, notes_quiet, put_back, receiver_stays, judged_fails}
 
 -- ---- which lanes have a connection
@@ -103,7 +104,7 @@ module _ (r : PlainReceiver) (l : Lane) (is : IsReceiver r) (within : l.0 < leng
   stays : Stays r l
   stays = receiver_stays r l is within
 
-  fare : (state : RecvState) → Serves r l state → Fares false state (lane_at r l.0) (past_at r l.0) (end_of r.history)
+  pub fare : (state : RecvState) → Serves r l state → Fares false state (lane_at r l.0) (past_at r l.0) (end_of r.history)
   fare state at =
       subst (λ (b : Bool). Fares b state (lane_at r l.0) (past_at r l.0) (end_of r.history)) at.sound
       (subst (λ (x : RecvState). Fares (is_failure r.answer) x (lane_at r l.0) (past_at r l.0) (end_of r.history)) at.here (is.lanes l.0 within))
@@ -111,13 +112,13 @@ module _ (r : PlainReceiver) (l : Lane) (is : IsReceiver r) (within : l.0 < leng
   -- ---- a failed end
 
   pub leaves_so : (put : Put) → Rattle.wdt_receiver_fsm.specs.Outcomes.Leaves r l put → IsReceiver (leaves r l).1
-  leaves_so put (WasMute fails mute) = put_back r l record (lane_at r l.0) { state = states.Ended } stays (inl fails)
+  leaves_so put (WasMute fails mute) = put_back r l record (lane_at r l.0) { state = states.Ended } (λ f. refl) stays (inl fails)
   leaves_so put (WasTold at given) = absurd (both_ways false refl (sym (sym (fare states.SendAbort at).failed)))
 
   pub warned_so : (put : Put) → is_failure r.answer ≡ true → is_mute (row_at r l put) ≡ false → IsReceiver (tells_failure r l).1
-  warned_so (Given input) fails voice = put_back r l record (lane_at r l.0) { state = states.SendAbort } stays
+  warned_so (Given input) fails voice = put_back r l record (lane_at r l.0) { state = states.SendAbort } (λ f. refl) stays
       record { goes_on = linked_at (is_failure r.answer) (lane_at r l.0).is_sized (state_at r l.0) (lane_at r l.0) (past_at r l.0) (end_of r.history) input (is.lanes l.0 within) voice; failed = fails }
-  warned_so (Bytes bytes) fails voice = put_back r l record (lane_at r l.0) { state = states.SendAbort } stays
+  warned_so (Bytes bytes) fails voice = put_back r l record (lane_at r l.0) { state = states.SendAbort } (λ f. refl) stays
       record { goes_on = bytes_linked (is_failure r.answer) (state_at r l.0) (lane_at r l.0) (past_at r l.0) (end_of r.history) bytes (is.lanes l.0 within) voice; failed = fails }
 
   -- ---- the lane wants a connection
@@ -151,7 +152,7 @@ module _ (r : PlainReceiver) (l : Lane) (is : IsReceiver r) (within : l.0 < leng
   free_by put t (ByLoss state at linked given) =
       let on = loss_linked state (lane_at r l.0) (past_at r l.0) (end_of r.history) (fare state at) linked in
       record {
-        stays = puts_so (noted r (events.Dropped l ∷ [])) l record (lane_at r l.0) { is_sized = false; has_waited = false; left = 0 } (dropped_stays at.sound on);
+        stays = puts_so (noted r (events.Dropped l ∷ [])) l record (lane_at r l.0) { is_sized = false; has_waited = false; left = 0 } (λ f. refl) (dropped_stays at.sound on);
         sound = judged_fails r.answer _ _ ∙ at.sound;
         goes_on = subst (λ (p : RecvPast). GoesOn p false) (sym (dropped r.history l)) record { closed = on.closed; quit = on.quit; acked = on.acked; link = refl };
         begun = subst (λ (p : RecvPast). p.begun ≡ None) (sym (dropped r.history l)) refl;
@@ -162,11 +163,11 @@ module _ (r : PlainReceiver) (l : Lane) (is : IsReceiver r) (within : l.0 < leng
   gave_up put t of used = go (free_by put t of) (has_finish t) refl where
     go : Free t → (b : Bool) → has_finish t ≡ b → IsReceiver (with_lane (noted t (given_up l (has_finish t) ∷ [])) l.0 record (lane_at t l.0) { state = states.Ended })
     go f true come = subst (λ (b : Bool). IsReceiver (with_lane (noted t (given_up l b ∷ [])) l.0 record (lane_at t l.0) { state = states.Ended })) (sym come)
-        (put_back (noted t (events.Quit l ∷ [])) l record (lane_at t l.0) { state = states.Ended }
+        (put_back (noted t (events.Quit l ∷ [])) l record (lane_at t l.0) { state = states.Ended } (λ f. refl)
         (notes_quiet t l (events.Quit l) f.stays (refl, tt) refl (may t l false (events.Quit l) f.stays f.sound f.goes_on refl refl (come, used_of (past_at t l.0).takes (past_at t l.0).failed_tries used)))
         (inr (inr (inl (subst (λ (p : RecvPast). p.has_quit ≡ true) (sym (quitted t.history l)) refl)))))
     go f false come = subst (λ (b : Bool). IsReceiver (with_lane (noted t (given_up l b ∷ [])) l.0 record (lane_at t l.0) { state = states.Ended })) (sym come)
-        (put_back (noted t (events.Close l ∷ [])) l record (lane_at t l.0) { state = states.Ended }
+        (put_back (noted t (events.Close l ∷ [])) l record (lane_at t l.0) { state = states.Ended } (λ f. refl)
         (notes_quiet t l (events.Close l) f.stays (refl, tt) refl (may t l false (events.Close l) f.stays f.sound f.goes_on refl refl (come, used_of (past_at t l.0).takes (past_at t l.0).failed_tries used)))
         (inr (inl (subst (λ (p : RecvPast). p.is_closed ≡ true) (sym (closed t.history l)) refl))))
 
@@ -174,14 +175,14 @@ module _ (r : PlainReceiver) (l : Lane) (is : IsReceiver r) (within : l.0 < leng
   listened put t of fresh =
       let f = free_by put t of in
       let few = below_of (nat_le 8 (past_at t l.0).takes) (nat_le 8 (past_at t l.0).failed_tries) fresh in
-      put_back t l record (lane_at t l.0) { state = states.Listen } f.stays
+      put_back t l record (lane_at t l.0) { state = states.Listen } (λ f. refl) f.stays
       record { goes_on = f.goes_on; begun = f.begun; idle = f.idle; takes = le_false 8 (past_at t l.0).takes few.0; tries = le_false 8 (past_at t l.0).failed_tries few.1 }
 
   linked_so : Serves r l states.Listen → IsReceiver (with_lane (noted r (events.Take l (Rattle.wdt_receiver_fsm.specs.Turn.next_take r l) ∷ [])) l.0 record (lane_at r l.0) { state = states.ReadSettings; is_sized = false; has_waited = false })
   linked_so at =
       let h = fare states.Listen at in
       let c = Rattle.wdt_receiver_fsm.specs.Turn.next_take r l in
-      put_back (noted r (events.Take l (Rattle.wdt_receiver_fsm.specs.Turn.next_take r l) ∷ [])) l record (lane_at r l.0) { state = states.ReadSettings; is_sized = false; has_waited = false }
+      put_back (noted r (events.Take l (Rattle.wdt_receiver_fsm.specs.Turn.next_take r l) ∷ [])) l record (lane_at r l.0) { state = states.ReadSettings; is_sized = false; has_waited = false } (λ f. refl)
       (notes_quiet r l (events.Take l (Rattle.wdt_receiver_fsm.specs.Turn.next_take r l)) stays (refl, tt) refl (may r l false (events.Take l (Rattle.wdt_receiver_fsm.specs.Turn.next_take r l)) stays at.sound h.goes_on refl refl (refl, omega (arith, h.takes))))
       (subst (λ (p : RecvPast). Rattle.wdt_receiver_fsm.specs.Receiver.Meets p × (false ≡ false)) (sym (took r.history l (Rattle.wdt_receiver_fsm.specs.Turn.next_take r l)))
       (record { goes_on = record { closed = h.goes_on.closed; quit = h.goes_on.quit; acked = h.goes_on.acked; link = refl }; begun = h.begun; idle = h.idle }, refl))
@@ -199,6 +200,7 @@ module _ (r : PlainReceiver) (l : Lane) (is : IsReceiver r) (within : l.0 < leng
     lane : lane_at t l.0 ≡ lane_at r l.0
     met : (end_of t.history).met ≢ None
     finish : has_finish t ≡ has_finish r
+    sound : is_failure t.answer ≡ false
 
   some_of : {A : Type 0} (o : Option A) → is_some o ≡ true → o ≢ None
   some_of None h e = absurd (cc)
@@ -209,7 +211,7 @@ module _ (r : PlainReceiver) (l : Lane) (is : IsReceiver r) (within : l.0 < leng
   none_of (Some x) h = absurd (cc)
 
   met_so : (s : Settings) (b : Bool) → is_some (end_of r.history).met ≡ b → Serves r l states.ReadSettings → settings_fault (length r.lanes) (end_of r.history).met l.0 (lane_at r l.0).conn s ≡ None → Knows (met_by r l s b)
-  met_so s true known at right = record { stays = stays; past = refl; lane = refl; met = some_of (end_of r.history).met known; finish = refl }
+  met_so s true known at right = record { stays = stays; past = refl; lane = refl; met = some_of (end_of r.history).met known; finish = refl; sound = at.sound }
   met_so s false known at right =
       let h = fare states.ReadSettings at in
       let none : (end_of r.history).met ≡ None = none_of (end_of r.history).met known in
@@ -220,6 +222,7 @@ module _ (r : PlainReceiver) (l : Lane) (is : IsReceiver r) (within : l.0 < leng
         lane = refl;
         met = λ e. first_some (end_of r.history).met s (sym (ap (λ (x : EndPast). x.met) (end_behind r.history (events.Met l s))) ∙ e);
         finish = ap (λ (x : EndPast). x.has_finish) (end_behind r.history (events.Met l s));
+        sound = at.sound;
       }
     where
       first_some : (o : Option Settings) (s : Settings) → first_of o s ≡ None → ⊥
@@ -229,11 +232,11 @@ module _ (r : PlainReceiver) (l : Lane) (is : IsReceiver r) (within : l.0 < leng
   greeted_by : (s : Settings) (t : PlainReceiver) (come : Bool) → Serves r l states.ReadSettings → Knows t → has_finish r ≡ come → IsReceiver (greets_by t l s come).1
   greeted_by s t true at k come =
       let h = fare states.ReadSettings at in
-      put_back t l record (lane_at t l.0) { state = states.SendDone; ask = s.ask; conn = s.conn.0 } k.stays
+      put_back t l record (lane_at t l.0) { state = states.SendDone; ask = s.ask; conn = s.conn.0 } (λ f. absurd (both_ways _ (k.stays.faultless k.sound) f)) k.stays
       record { goes_on = subst (λ (p : RecvPast). GoesOn p true) (sym k.past) h.0.goes_on; begun = ap (λ (p : RecvPast). p.begun) k.past ∙ h.0.begun; finish = k.finish ∙ come }
   greeted_by s t false at k come =
       let h = fare states.ReadSettings at in
-      put_back t l record (lane_at t l.0) { state = states.SendLocalCheckpoint; ask = s.ask; conn = s.conn.0 } k.stays (
+      put_back t l record (lane_at t l.0) { state = states.SendLocalCheckpoint; ask = s.ask; conn = s.conn.0 } (λ f. absurd (both_ways _ (k.stays.faultless k.sound) f)) k.stays (
         record { goes_on = subst (λ (p : RecvPast). GoesOn p true) (sym k.past) h.0.goes_on; idle = ap (λ (p : RecvPast). p.is_idle) k.past ∙ h.0.idle; met = k.met; finish = k.finish ∙ come },
         ap (λ (p : RecvPast). p.begun) k.past ∙ h.0.begun,
         ap (λ (x : RecvLane). x.is_sized) k.lane ∙ h.1,
@@ -244,12 +247,12 @@ module _ (r : PlainReceiver) (l : Lane) (is : IsReceiver r) (within : l.0 < leng
   sized_as : (files bytes : ℕ) (b : Bool) → is_some (end_of r.history).sized ≡ b → Serves r l states.ReadNextCmd → IsReceiver (with_lane (sized_by r l files bytes b) l.0 record (lane_at r l.0) { is_sized = true })
   sized_as files bytes true known at =
       let h = fare states.ReadNextCmd at in
-      put_back r l record (lane_at r l.0) { is_sized = true } stays
+      put_back r l record (lane_at r l.0) { is_sized = true } (λ f. refl) stays
       (subst (λ (x : RecvState). Fares (is_failure r.answer) x record (lane_at r l.0) { is_sized = true } (past_at r l.0) (end_of r.history)) (sym at.here) (h.0, h.1, λ s. some_of (end_of r.history).sized known))
   sized_as files bytes false known at =
       let h = fare states.ReadNextCmd at in
       let e = end_behind r.history (events.Sized l files bytes) in
-      put_back (noted r (events.Sized l files bytes ∷ [])) l record (lane_at r l.0) { is_sized = true }
+      put_back (noted r (events.Sized l files bytes ∷ [])) l record (lane_at r l.0) { is_sized = true } (λ f. refl)
       (notes_sized r l files bytes stays (may r l true (events.Sized l files bytes) stays at.sound h.0.goes_on refl refl (none_of (end_of r.history).sized known, h.0.met)))
       (subst (λ (x : RecvState). Fares (is_failure r.answer) x record (lane_at r l.0) { is_sized = true } (past_of (r.history ++ events.Sized l files bytes ∷ []) l.0) (end_of (r.history ++ events.Sized l files bytes ∷ []))) (sym at.here)
       (subst (λ (p : RecvPast). Fares (is_failure r.answer) states.ReadNextCmd record (lane_at r l.0) { is_sized = true } p (end_of (r.history ++ events.Sized l files bytes ∷ []))) (sym (sized_past r.history l files bytes l.0)) (
@@ -268,7 +271,7 @@ module _ (r : PlainReceiver) (l : Lane) (is : IsReceiver r) (within : l.0 < leng
   landed_so b put lands =
       let h = fare states.TakeBlock lands.serves in
       let u : PlainReceiver = with_lane r l.0 record (lane_at r l.0) { left = 0 } in
-      let s = puts_so r l record (lane_at r l.0) { left = 0 } stays in
+      let s = puts_so r l record (lane_at r l.0) { left = 0 } (λ f. refl) stays in
       let n = notes_quiet (with_lane r l.0 record (lane_at r l.0) { left = 0 }) l (events.Land l) s (refl, tt) refl
       (may (with_lane r l.0 record (lane_at r l.0) { left = 0 }) l true (events.Land l) s (judged_fails r.answer _ _ ∙ lands.serves.sound) h.0.goes_on refl refl (λ e. not_none (past_at r l.0).begun b lands.begun e)) in
       record {
@@ -292,14 +295,14 @@ module _ (r : PlainReceiver) (l : Lane) (is : IsReceiver r) (within : l.0 < leng
 
   read_on : (put : Put) (t : PlainReceiver) → ReadsOn r l put t → IsReceiver (with_lane t l.0 record (lane_at t l.0) { state = states.ReadNextCmd })
   read_on put t (ByGreeting at given asked) =
-      let h = fare states.SendLocalCheckpoint at in put_back r l record (lane_at r l.0) { state = states.ReadNextCmd } stays (h.0, h.1, λ s. absurd (both_ways (lane_at r l.0).is_sized h.2 s))
+      let h = fare states.SendLocalCheckpoint at in put_back r l record (lane_at r l.0) { state = states.ReadNextCmd } (λ f. refl) stays (h.0, h.1, λ s. absurd (both_ways (lane_at r l.0).is_sized h.2 s))
   read_on put t (ByChunks at given) =
-      let h = fare states.SendFileChunks at in put_back r l record (lane_at r l.0) { state = states.ReadNextCmd } stays (h.0, h.1, λ s. absurd (both_ways (lane_at r l.0).is_sized h.2 s))
+      let h = fare states.SendFileChunks at in put_back r l record (lane_at r l.0) { state = states.ReadNextCmd } (λ f. refl) stays (h.0, h.1, λ s. absurd (both_ways (lane_at r l.0).is_sized h.2 s))
   read_on put t (ByMarks at given) =
-      let h = fare states.SendGlobalCheckpoint at in put_back r l record (lane_at r l.0) { state = states.ReadNextCmd } stays (h.0, h.1, λ s. h.3)
-  read_on put t (ByLanding b lands full) = put_back (landed_by r l b) l record (lane_at (landed_by r l b) l.0) { state = states.ReadNextCmd } (landed_so b put lands) (landed_fares b put record (lane_at (landed_by r l b) l.0) { state = states.ReadNextCmd } lands)
+      let h = fare states.SendGlobalCheckpoint at in put_back r l record (lane_at r l.0) { state = states.ReadNextCmd } (λ f. refl) stays (h.0, h.1, λ s. h.3)
+  read_on put t (ByLanding b lands full) = put_back (landed_by r l b) l record (lane_at (landed_by r l b) l.0) { state = states.ReadNextCmd } (λ f. refl) (landed_so b put lands) (landed_fares b put record (lane_at (landed_by r l b) l.0) { state = states.ReadNextCmd } lands)
   read_on put t (ByLogging b lands full) =
-      put_back (all_logged (landed_by r l b)) l record (lane_at (all_logged (landed_by r l b)) l.0) { state = states.ReadNextCmd }
+      put_back (all_logged (landed_by r l b)) l record (lane_at (all_logged (landed_by r l b)) l.0) { state = states.ReadNextCmd } (λ f. refl)
       (logged_so (landed_by r l b) l (landed_by r l b).unlogged refl (landed_so b put lands))
       (logged_fares (landed_by r l b) (landed_by r l b).unlogged (landed_fares b put record (lane_at (landed_by r l b) l.0) { state = states.ReadNextCmd } lands))
     where
@@ -381,7 +384,7 @@ module _ (r : PlainReceiver) (l : Lane) (is : IsReceiver r) (within : l.0 < leng
       let h = fare states.ReadNextCmd at in
       let past : past_at t l.0 ≡ past_at r l.0 = ap (λ (g : List RecvEvent). past_of g l.0) ready.history in
       let ends : end_of t.history ≡ end_of r.history = ap end_of ready.history in
-      put_back (noted t (events.Begin l b ∷ [])) l record (lane_at t l.0) { state = states.TakeBlock; left = suc left } (begun_stays t b ready)
+      put_back (noted t (events.Begin l b ∷ [])) l record (lane_at t l.0) { state = states.TakeBlock; left = suc left } (λ f. refl) (begun_stays t b ready)
       (subst (λ (p : RecvPast). Fares (is_failure t.answer) states.TakeBlock record (lane_at t l.0) { state = states.TakeBlock; left = suc left } p (end_of (t.history ++ events.Begin l b ∷ []))) (sym (began t.history l b))
       (subst (λ (e : EndPast). Fares (is_failure t.answer) states.TakeBlock record (lane_at t l.0) { state = states.TakeBlock; left = suc left } (record (past_at t l.0) { begun = Some b }) e) (sym (end_same t.history (events.Begin l b) refl))
       (subst (λ (p : RecvPast). Fares (is_failure t.answer) states.TakeBlock record (lane_at t l.0) { state = states.TakeBlock; left = suc left } (record p { begun = Some b }) (end_of t.history)) (sym (ap (λ (g : List RecvEvent). past_of g l.0) ready.history))
@@ -401,7 +404,7 @@ module _ (r : PlainReceiver) (l : Lane) (is : IsReceiver r) (within : l.0 < leng
       record { closed = h.0.goes_on.closed; quit = h.0.goes_on.quit; acked = h.0.goes_on.acked; link = h.0.goes_on.link } in
       let n = notes_quiet (noted t (events.Begin l b ∷ [])) l (events.Land l) s (refl, tt) refl
       (may (noted t (events.Begin l b ∷ [])) l true (events.Land l) s ready.sound on refl refl (λ e. some_begun b (sym (ap (λ (p : RecvPast). p.begun) (began t.history l b)) ∙ e))) in
-      put_back (lands (noted t (events.Begin l b ∷ [])) l b) l record (lane_at t l.0) { state = states.ReadNextCmd }
+      put_back (lands (noted t (events.Begin l b ∷ [])) l b) l record (lane_at t l.0) { state = states.ReadNextCmd } (λ f. refl)
       record {
         few = n.few;
         within = n.within;
@@ -421,7 +424,7 @@ module _ (r : PlainReceiver) (l : Lane) (is : IsReceiver r) (within : l.0 < leng
   taken_so : (put : Put) (left : ℕ) → Takes r l put left → IsReceiver (with_lane r l.0 record (lane_at r l.0) { state = states.TakeBlock; left = left })
   taken_so put left takes =
       let h = fare states.TakeBlock takes.serves in
-      put_back r l record (lane_at r l.0) { state = states.TakeBlock; left = left } stays
+      put_back r l record (lane_at r l.0) { state = states.TakeBlock; left = left } (λ f. refl) stays
       (h.0, less (past_at r l.0).begun (lane_at r l.0).left left takes.more (omega (arith, takes.rest)) h.1, h.2, h.3)
     where
       more_than : (left : ℕ) → ((left ≡ 0) → ⊥) → 0 < left
@@ -446,7 +449,7 @@ module _ (r : PlainReceiver) (l : Lane) (is : IsReceiver r) (within : l.0 < leng
       let h = fare states.ReadNextCmd at in
       let n = notes_quiet r l (events.Idle l) stays (refl, tt) refl (may r l true (events.Idle l) stays at.sound h.0.goes_on refl refl h.1) in
       subst (λ (x : PlainReceiver). Resting x) (sym is) record {
-        stays = puts_so (noted r (events.Idle l ∷ [])) l record (lane_at r l.0) { has_waited = false } n;
+        stays = puts_so (noted r (events.Idle l ∷ [])) l record (lane_at r l.0) { has_waited = false } (λ f. refl) n;
         sound = judged_fails r.answer _ _ ∙ at.sound;
         waits = subst (λ (p : RecvPast). Waits p (end_of (r.history ++ events.Idle l ∷ []))) (sym (idled r.history l))
             (subst (λ (e : EndPast). Waits (record (past_at r l.0) { is_idle = true; telling = [] }) e) (sym (end_same r.history (events.Idle l) refl))
@@ -456,7 +459,7 @@ module _ (r : PlainReceiver) (l : Lane) (is : IsReceiver r) (within : l.0 < leng
   rests_by put t (ByWait at given is) =
       let h = fare states.SendWait at in
       subst (λ (x : PlainReceiver). Resting x) (sym is) record {
-        stays = puts_so r l record (lane_at r l.0) { has_waited = true } stays;
+        stays = puts_so r l record (lane_at r l.0) { has_waited = true } (λ f. refl) stays;
         sound = judged_fails r.answer _ _ ∙ at.sound;
         waits = h.0;
         sized = ap (λ (x : RecvLane). x.is_sized) (lane_set r l.0 record (lane_at r l.0) { has_waited = true } within) ∙ h.1;
@@ -465,19 +468,23 @@ module _ (r : PlainReceiver) (l : Lane) (is : IsReceiver r) (within : l.0 < leng
       let h = fare states.WaitForFinish at in
       subst (λ (x : PlainReceiver). Resting x) (sym is) record { stays = stays; sound = at.sound; waits = h.0; sized = h.1 }
 
+  -- a lane that chooses what it does is idle
+  pub idle_by : (put : Put) (t : PlainReceiver) → Idles r l put t → (past_at t l.0).is_idle ≡ true
+  idle_by put t idles = (rests_by put t idles).waits.idle
+
   waits_so : (t : PlainReceiver) (again : Bool) → Resting t → IsReceiver (waits_by t l again).1
-  waits_so t true rest = put_back t l record (lane_at t l.0) { state = states.WaitForFinish } rest.stays (rest.waits, rest.sized)
-  waits_so t false rest = put_back t l record (lane_at t l.0) { state = states.SendWait } rest.stays (rest.waits, rest.sized)
+  waits_so t true rest = put_back t l record (lane_at t l.0) { state = states.WaitForFinish } (λ f. refl) rest.stays (rest.waits, rest.sized)
+  waits_so t false rest = put_back t l record (lane_at t l.0) { state = states.SendWait } (λ f. refl) rest.stays (rest.waits, rest.sized)
 
   tells_so : (t : PlainReceiver) (q : ℕ) (qs : List ℕ) → Resting t → has_finish t ≡ false → untold_at t l.0 ≡ q ∷ qs → IsReceiver (tells_by t l (q ∷ qs)).1
   tells_so t q qs rest first untold =
       let w = rest.waits in
-      put_back (noted t (events.Told l (set_of (q ∷ qs)) ∷ [])) l record (lane_at t l.0) { state = states.SendGlobalCheckpoint }
+      put_back (noted t (events.Told l (set_of (q ∷ qs)) ∷ [])) l record (lane_at t l.0) { state = states.SendGlobalCheckpoint } (λ f. refl)
       (notes_quiet t l (events.Told l (set_of (q ∷ qs))) rest.stays (refl, tt) refl (may t l true (events.Told l (set_of (q ∷ qs))) rest.stays rest.sound w.goes_on refl refl
       (w.idle, ap set_of (sym untold), λ e. some_list q qs (sym untold ∙ e))))
       (subst (λ (p : RecvPast). Fares (is_failure t.answer) states.SendGlobalCheckpoint record (lane_at t l.0) { state = states.SendGlobalCheckpoint } p (end_of (t.history ++ events.Told l (set_of (q ∷ qs)) ∷ []))) (sym (told t.history l (set_of (q ∷ qs))))
       (subst (λ (e : EndPast). Fares (is_failure t.answer) states.SendGlobalCheckpoint record (lane_at t l.0) { state = states.SendGlobalCheckpoint } (record (past_at t l.0) { is_idle = false; told = (past_at t l.0).told ++ lanes_of (set_of (q ∷ qs)); telling = lanes_of (set_of (q ∷ qs)) }) e) (sym (end_same t.history (events.Told l (set_of (q ∷ qs))) refl))
-      (record { goes_on = record { closed = w.goes_on.closed; quit = w.goes_on.quit; acked = w.goes_on.acked; link = w.goes_on.link }; idle = refl; met = w.met; finish = first }, w.begun, rest.sized, w.sized)))
+      (record { goes_on = record { closed = w.goes_on.closed; quit = w.goes_on.quit; acked = w.goes_on.acked; link = w.goes_on.link }; idle = refl; met = w.met; finish = first }, w.begun, rest.sized, w.sized, λ e. some_list q qs (sym (told_lanes t l (q ∷ qs) rest.stays.few untold) ∙ e))))
     where
       some_list : (q : ℕ) (qs : List ℕ) → q ∷ qs ≡ [] → ⊥
       some_list q qs e = cc
@@ -516,7 +523,7 @@ module _ (r : PlainReceiver) (l : Lane) (is : IsReceiver r) (within : l.0 < leng
   logged_sized t (b ∷ bs) files bytes whole = whole
 
   concluded : (t : PlainReceiver) → Resting t → has_finish t ≡ true → IsReceiver (says_done t l).1
-  concluded t rest come = put_back t l record (lane_at t l.0) { state = states.SendDone } rest.stays record { goes_on = rest.waits.goes_on; begun = rest.waits.begun; finish = come }
+  concluded t rest come = put_back t l record (lane_at t l.0) { state = states.SendDone } (λ f. refl) rest.stays record { goes_on = rest.waits.goes_on; begun = rest.waits.begun; finish = come }
 
   -- on a receiver of which everything is logged
   finished_so : (v : PlainReceiver) → Resting v → v.unlogged ≡ [] → has_finish v ≡ false → can_finish v ≡ true → short_fault (end_of v.history).sized (files_in (marks_at v)) (bytes_in (marks_at v)) ≡ None → IsReceiver (says_done (noted v (events.Finish ∷ [])) l).1
@@ -526,7 +533,7 @@ module _ (r : PlainReceiver) (l : Lane) (is : IsReceiver r) (within : l.0 < leng
         speaks = tt;
         fits = record { first = first; ready = ready; whole = short_whole (end_of v.history).sized (files_in (marks_at v)) (bytes_in (marks_at v)) rest.waits.sized whole };
       } in
-      put_back (noted v (events.Finish ∷ [])) l record (lane_at v l.0) { state = states.SendDone }
+      put_back (noted v (events.Finish ∷ [])) l record (lane_at v l.0) { state = states.SendDone } (λ f. refl)
       (notes_finish v l rest.stays rest.sound ready none allowed)
       (subst (λ (p : RecvPast). Fares (is_failure v.answer) states.SendDone record (lane_at v l.0) { state = states.SendDone } p (end_of (v.history ++ events.Finish ∷ []))) (sym (finish_past v.history l.0))
       (subst (λ (e : EndPast). Fares (is_failure v.answer) states.SendDone record (lane_at v l.0) { state = states.SendDone } (past_at v l.0) e) (sym (end_behind v.history events.Finish))
@@ -539,20 +546,20 @@ module _ (r : PlainReceiver) (l : Lane) (is : IsReceiver r) (within : l.0 < leng
       (logged_sized u u.unlogged (files_in (marks_at (all_logged u))) (bytes_in (marks_at (all_logged u))) whole)
 
   ended_so : Serves r l states.SendDone → IsReceiver (with_lane r l.0 record (lane_at r l.0) { state = states.ReadAck })
-  ended_so at = put_back r l record (lane_at r l.0) { state = states.ReadAck } stays (fare states.SendDone at)
+  ended_so at = put_back r l record (lane_at r l.0) { state = states.ReadAck } (λ f. refl) stays (fare states.SendDone at)
 
   acked_so : Serves r l states.ReadAck → IsReceiver (leaves (noted r (events.Acked l ∷ [])) l).1
   acked_so at =
       let h = fare states.ReadAck at in
-      put_back (noted r (events.Acked l ∷ [])) l record (lane_at r l.0) { state = states.Ended }
+      put_back (noted r (events.Acked l ∷ [])) l record (lane_at r l.0) { state = states.Ended } (λ f. refl)
       (notes_quiet r l (events.Acked l) stays (refl, tt) refl (may r l true (events.Acked l) stays at.sound h.goes_on refl refl h.finish))
       (inr (inr (inr (subst (λ (p : RecvPast). p.is_acked ≡ true) (sym (acked r.history l)) refl))))
 
   -- ---- the end fails
 
   fell_so : (t : PlainReceiver) (a : EndAnswer) (mute : Bool) → is_failure a ≡ true → Stays (failed t a) l → (mute ≡ false → GoesOn (past_at t l.0) true) → IsReceiver (by_voice mute (leaves (failed t a) l) (tells_failure (failed t a) l)).1
-  fell_so t a true fails s on = put_back (failed t a) l record (lane_at t l.0) { state = states.Ended } s (inl fails)
-  fell_so t a false fails s on = put_back (failed t a) l record (lane_at t l.0) { state = states.SendAbort } s record { goes_on = on refl; failed = fails }
+  fell_so t a true fails s on = put_back (failed t a) l record (lane_at t l.0) { state = states.Ended } (λ f. refl) s (inl fails)
+  fell_so t a false fails s on = put_back (failed t a) l record (lane_at t l.0) { state = states.SendAbort } (λ f. refl) s record { goes_on = on refl; failed = fails }
 
   reading_on : (state : RecvState) → Serves r l state → is_reading state ≡ true → GoesOn (past_at r l.0) true
   reading_on states.ReadSettings at reads = (fare states.ReadSettings at).0.goes_on
@@ -578,9 +585,23 @@ module _ (r : PlainReceiver) (l : Lane) (is : IsReceiver r) (within : l.0 < leng
   abbrev Fault : PeerKind → Type 0
   Fault kind = IsFault (terms_of r) r.history l kind
 
-  size_legal : (o : Option (ℕ × ℕ)) (files bytes : ℕ) (kind : PeerKind) → (end_of r.history).sized ≡ o → size_fault o files bytes ≡ Some kind → Fault kind
-  size_legal None files bytes kind is wrong = absurd (cc)
-  size_legal (Some first) files bytes kind is wrong = go (first.0 == files && first.1 == bytes) refl where
+  reads_by : (state : RecvState) (lane : RecvLane) (p : RecvPast) (e : EndPast) → Fares false state lane p e → is_reading state ≡ true → ReadsIn state lane.is_sized p e
+  reads_by states.ReadSettings lane p e h reads = (h.0.begun, h.0.idle, h.1)
+  reads_by states.ReadNextCmd lane p e h reads = (record { begun = h.1; idle = h.0.idle; met = h.0.met; finish = h.0.finish }, h.2)
+  reads_by states.ReadAck lane p e h reads = (h.begun, h.finish)
+  reads_by state lane p e h reads = absurd (cc)
+
+  -- where the lane reads, its past says that it may
+  reads_here : (state : RecvState) → Serves r l state → is_reading state ≡ true → ReadsAt state (lane_at r l.0).is_sized r.history l.0
+  reads_here state at reads = reads_by state (lane_at r l.0) (past_at r l.0) (end_of r.history) (fare state at) reads
+
+  reads_so : (state here : RecvState) (sized : Bool) → Serves r l state → is_reading state ≡ true → state ≡ here → (lane_at r l.0).is_sized ≡ sized → ReadsAt here sized r.history l.0
+  reads_so state here sized at reads is same =
+      subst (λ (x : RecvState). ReadsAt x sized r.history l.0) is (subst (λ (b : Bool). ReadsAt state b r.history l.0) same (reads_here state at reads))
+
+  size_legal : ReadsAt states.ReadNextCmd false r.history l.0 → (o : Option (ℕ × ℕ)) (files bytes : ℕ) (kind : PeerKind) → (end_of r.history).sized ≡ o → size_fault o files bytes ≡ Some kind → Fault kind
+  size_legal reads None files bytes kind is wrong = absurd (cc)
+  size_legal reads (Some first) files bytes kind is wrong = go (first.0 == files && first.1 == bytes) refl where
     no_fault : None ≡ Some kind → ⊥
     no_fault e = cc
 
@@ -589,15 +610,15 @@ module _ (r : PlainReceiver) (l : Lane) (is : IsReceiver r) (within : l.0 < leng
     go false other =
         let e = ap (λ (b : Bool). if b then None else Some (peers.SizesDiffer first.0 first.1 files bytes)) other in
         subst (λ (k : PeerKind). IsFault (terms_of r) r.history l k) (same_Some _ _ (sym (ap (λ (b : Bool). if b then None else Some (peers.SizesDiffer first.0 first.1 files bytes)) other) ∙ wrong))
-        record { files = files; bytes = bytes; wrong = ap (λ (o : Option (ℕ × ℕ)). size_fault o files bytes) is ∙ ap (λ (b : Bool). if b then None else Some (peers.SizesDiffer first.0 first.1 files bytes)) other }
+        record { files = files; bytes = bytes; reads = reads; wrong = ap (λ (o : Option (ℕ × ℕ)). size_fault o files bytes) is ∙ ap (λ (b : Bool). if b then None else Some (peers.SizesDiffer first.0 first.1 files bytes)) other }
 
-  fault_of_kind : (header : Header) (f : BeginFault) → block_fault r.known (marks_at r) (begun_blocks r) (length (past_at r l.0).landed) header ≡ Some (kind_of f) → Fault (kind_of f)
-  fault_of_kind header (BSize a b c d) wrong = record { header = header; wrong = wrong }
-  fault_of_kind header (BOverlap a) wrong = record { header = header; wrong = wrong }
-  fault_of_kind header (BLimit a) wrong = record { header = header; wrong = wrong }
+  fault_of_kind : ReadsAt states.ReadNextCmd true r.history l.0 → (header : Header) (f : BeginFault) → block_fault r.known (marks_at r) (begun_blocks r) (length (past_at r l.0).landed) header ≡ Some (kind_of f) → Fault (kind_of f)
+  fault_of_kind reads header (BSize a b c d) wrong = record { header = header; reads = reads; wrong = wrong }
+  fault_of_kind reads header (BOverlap a) wrong = record { header = header; reads = reads; wrong = wrong }
+  fault_of_kind reads header (BLimit a) wrong = record { header = header; reads = reads; wrong = wrong }
 
-  block_legal : (header : Header) (kind : PeerKind) → block_fault r.known (marks_at r) (begun_blocks r) (length (past_at r l.0).landed) header ≡ Some kind → Fault kind
-  block_legal header kind wrong = go (nat_le most_landed (length (past_at r l.0).landed)) refl where
+  block_legal : ReadsAt states.ReadNextCmd true r.history l.0 → (header : Header) (kind : PeerKind) → block_fault r.known (marks_at r) (begun_blocks r) (length (past_at r l.0).landed) header ≡ Some kind → Fault kind
+  block_legal reads header kind wrong = go (nat_le most_landed (length (past_at r l.0).landed)) refl where
     mapped : (o : Option BeginFault) → option_map kind_of o ≡ Some kind → (f : BeginFault) × (kind_of f ≡ kind)
     mapped None e = absurd (cc)
     mapped (Some f) e = (f, same_Some _ _ e)
@@ -606,18 +627,27 @@ module _ (r : PlainReceiver) (l : Lane) (is : IsReceiver r) (within : l.0 < leng
     go true over =
         let same = same_Some _ _ (sym (ap (λ (b : Bool). if b then Some (peers.OverLimit (length (past_at r l.0).landed + 1)) else option_map kind_of (begin_fault r.known (marks_at r) (begun_blocks r) header)) over) ∙ wrong) in
         subst (λ (k : PeerKind). IsFault (terms_of r) r.history l k) (same_Some _ _ (sym (ap (λ (b : Bool). if b then Some (peers.OverLimit (length (past_at r l.0).landed + 1)) else option_map kind_of (begin_fault r.known (marks_at r) (begun_blocks r) header)) over) ∙ wrong))
-        record { header = header; wrong = ap (λ (b : Bool). if b then Some (peers.OverLimit (length (past_at r l.0).landed + 1)) else option_map kind_of (begin_fault r.known (marks_at r) (begun_blocks r) header)) over }
+        record { header = header; reads = reads; wrong = ap (λ (b : Bool). if b then Some (peers.OverLimit (length (past_at r l.0).landed + 1)) else option_map kind_of (begin_fault r.known (marks_at r) (begun_blocks r) header)) over }
     go false under =
         let m = mapped (begin_fault r.known (marks_at r) (begun_blocks r) header) (sym (ap (λ (b : Bool). if b then Some (peers.OverLimit (length (past_at r l.0).landed + 1)) else option_map kind_of (begin_fault r.known (marks_at r) (begun_blocks r) header)) under) ∙ wrong) in
-        subst (λ (k : PeerKind). IsFault (terms_of r) r.history l k) m.1 (fault_of_kind header m.0 (wrong ∙ ap (λ (k : PeerKind). Some k) (sym m.1)))
+        subst (λ (k : PeerKind). IsFault (terms_of r) r.history l k) m.1 (fault_of_kind reads header m.0 (wrong ∙ ap (λ (k : PeerKind). Some k) (sym m.1)))
 
-  peer_legal : (state : RecvState) (put : Put) (kind : PeerKind) → is_reading state ≡ true → Mistakes r l state put kind → Fault kind
-  peer_legal state put kind reads (NoFrame at given is) = subst (λ (k : PeerKind). IsFault (terms_of r) r.history l k) (sym is) tt
-  peer_legal state put kind reads (NoPlace frame command given row is) =
-      subst (λ (k : PeerKind). IsFault (terms_of r) r.history l k) (sym is) record { at = state; frame = frame; sized = (lane_at r l.0).is_sized; reads = reads; row = row }
-  peer_legal state put kind reads (WrongSettings s field given wrong is) = subst (λ (k : PeerKind). IsFault (terms_of r) r.history l k) (sym is) record { settings = s; conn = (lane_at r l.0).conn; wrong = wrong }
-  peer_legal state put kind reads (OtherSize files bytes given wrong) = size_legal (end_of r.history).sized files bytes kind refl wrong
-  peer_legal state put kind reads (WrongBlock header given wrong) = block_legal header kind wrong
+  settings_legal : (s : Settings) (field : ℕ) → ReadsAt states.ReadSettings (lane_at r l.0).is_sized r.history l.0 → settings_fault (length r.lanes) (end_of r.history).met l.0 (lane_at r l.0).conn s ≡ Some field → Fault (peers.BadSettings field)
+  settings_legal s field reads wrong = record {
+    settings = s;
+    reads = (reads.0, reads.1, refl);
+    wrong = ap (λ (c : ℕ). settings_fault (length r.lanes) (end_of r.history).met l.0 c s) (conn_is r.lanes l.0) ∙ wrong;
+  }
+
+  peer_legal : (state : RecvState) (put : Put) (kind : PeerKind) → Serves r l state → is_reading state ≡ true → Mistakes r l state put kind → Fault kind
+  peer_legal state put kind at reads (NoFrame place given is) =
+      subst (λ (k : PeerKind). IsFault (terms_of r) r.history l k) (sym is) record { at = state; sized = (lane_at r l.0).is_sized; reads = reads_here state at reads }
+  peer_legal state put kind at reads (NoPlace frame command given row is) =
+      subst (λ (k : PeerKind). IsFault (terms_of r) r.history l k) (sym is) record { at = state; frame = frame; sized = (lane_at r l.0).is_sized; reads = reads_here state at reads; row = row }
+  peer_legal state put kind at reads (WrongSettings s field given here wrong is) =
+      subst (λ (k : PeerKind). IsFault (terms_of r) r.history l k) (sym is) (settings_legal s field (reads_so state states.ReadSettings (lane_at r l.0).is_sized at reads here refl) wrong)
+  peer_legal state put kind at reads (OtherSize files bytes given here sized wrong) = size_legal (reads_so state states.ReadNextCmd false at reads here sized) (end_of r.history).sized files bytes kind refl wrong
+  peer_legal state put kind at reads (WrongBlock header given here sized wrong) = block_legal (reads_so state states.ReadNextCmd true at reads here sized) header kind wrong
 
   -- ---- a finish that finds something else
 
@@ -632,13 +662,19 @@ module _ (r : PlainReceiver) (l : Lane) (is : IsReceiver r) (within : l.0 < leng
   unfolding landed_of
   landed_idle g = idle_landed (λ k. None) g
 
+  -- the finish of n lanes is ready on the lane, or once it is idle
+  abbrev ReadyOn : ℕ → Type 0
+  ReadyOn n =
+      (((past_at r l.0).is_idle ≡ true) × (is_ready n r.history ≡ true))
+      ⊎ (ReadsAt states.ReadNextCmd true r.history l.0 × (is_ready n (r.history ++ events.Idle l ∷ []) ≡ true))
+
   -- how an idle lane's receiver is to the one before
   record Chose (t : PlainReceiver) : Type 0 where
     opening : t.opening ≡ r.opening
     many : length t.lanes ≡ length r.lanes
     landed : landed_of t.history ≡ landed_of r.history
     ends : end_of t.history ≡ end_of r.history
-    ready : can_finish t ≡ true → (is_ready (length r.lanes) r.history ≡ true) ⊎ (is_ready (length r.lanes) (r.history ++ events.Idle l ∷ []) ≡ true)
+    ready : can_finish t ≡ true → ReadyOn (length r.lanes)
     back : (bs : List Block) → t.unlogged ≡ bs → has_finish r ≡ false → Stays (record (all_logged_by t bs) { history = r.history }) l
 
   with_answer : (t : PlainReceiver) (a : EndAnswer) → is_failure a ≡ is_failure t.answer → Stays t l → Stays (record t { answer = a }) l
@@ -663,9 +699,9 @@ module _ (r : PlainReceiver) (l : Lane) (is : IsReceiver r) (within : l.0 < leng
         many = length-set r.lanes l.0 record (lane_at r l.0) { has_waited = false };
         landed = landed_idle r.history;
         ends = end_same r.history (events.Idle l) refl;
-        ready = λ ready. inr (subst (λ (n : ℕ). is_ready n (r.history ++ events.Idle l ∷ []) ≡ true) (length-set r.lanes l.0 record (lane_at r l.0) { has_waited = false }) ready);
+        ready = λ ready. inr (reads_so states.ReadNextCmd states.ReadNextCmd true at refl refl sized, subst (λ (n : ℕ). is_ready n (r.history ++ events.Idle l ∷ []) ≡ true) (length-set r.lanes l.0 record (lane_at r l.0) { has_waited = false }) ready);
         back = λ bs left first. logged_back (idles_lane r l) bs left first
-            (with_answer (with_lane r l.0 record (lane_at r l.0) { has_waited = false }) (idles_lane r l).answer (judged_fails r.answer _ _ ∙ sym (judged_fails r.answer _ _)) (puts_so r l record (lane_at r l.0) { has_waited = false } stays));
+            (with_answer (with_lane r l.0 record (lane_at r l.0) { has_waited = false }) (idles_lane r l).answer (judged_fails r.answer _ _ ∙ sym (judged_fails r.answer _ _)) (puts_so r l record (lane_at r l.0) { has_waited = false } (λ f. refl) stays));
       }
   chose_by put t (ByWait at given is) =
       subst (λ (x : PlainReceiver). Chose x) (sym is) record {
@@ -673,8 +709,8 @@ module _ (r : PlainReceiver) (l : Lane) (is : IsReceiver r) (within : l.0 < leng
         many = length-set r.lanes l.0 record (lane_at r l.0) { has_waited = true };
         landed = refl;
         ends = refl;
-        ready = λ ready. inl (subst (λ (n : ℕ). is_ready n r.history ≡ true) (length-set r.lanes l.0 record (lane_at r l.0) { has_waited = true }) ready);
-        back = λ bs left first. logged_back (waited_lane r l) bs left first (puts_so r l record (lane_at r l.0) { has_waited = true } stays);
+        ready = λ ready. inl ((fare states.SendWait at).0.idle, subst (λ (n : ℕ). is_ready n r.history ≡ true) (length-set r.lanes l.0 record (lane_at r l.0) { has_waited = true }) ready);
+        back = λ bs left first. logged_back (waited_lane r l) bs left first (puts_so r l record (lane_at r l.0) { has_waited = true } (λ f. refl) stays);
       }
   chose_by put t (ByWaking at given is) =
       subst (λ (x : PlainReceiver). Chose x) (sym is) record {
@@ -682,7 +718,7 @@ module _ (r : PlainReceiver) (l : Lane) (is : IsReceiver r) (within : l.0 < leng
         many = refl;
         landed = refl;
         ends = refl;
-        ready = λ ready. inl ready;
+        ready = λ ready. inl ((fare states.WaitForFinish at).0.idle, ready);
         back = λ bs left first. logged_back r bs left first stays;
       }
 
@@ -714,11 +750,12 @@ module _ (r : PlainReceiver) (l : Lane) (is : IsReceiver r) (within : l.0 < leng
   same_marks T t same c =
       logged_marks t t.unlogged ∙ ap (λ (fs : List NamedFile). marks_of fs (landed_of t.history)) (c.opening ∙ sym same) ∙ ap (λ (bs : List Block). marks_of T.opening bs) c.landed
 
-  short_legal : (T : Terms) (t : PlainReceiver) (kind : PeerKind) → T.lanes ≡ length r.lanes → T.opening ≡ r.opening → Chose t → can_finish t ≡ true → short_fault (end_of t.history).sized (files_in (marks_at (all_logged t))) (bytes_in (marks_at (all_logged t))) ≡ Some kind → IsFault T r.history l kind
-  short_legal T t kind many same c ready wrong =
+  short_legal : (T : Terms) (t : PlainReceiver) (kind : PeerKind) → has_finish r ≡ false → T.lanes ≡ length r.lanes → T.opening ≡ r.opening → Chose t → can_finish t ≡ true → short_fault (end_of t.history).sized (files_in (marks_at (all_logged t))) (bytes_in (marks_at (all_logged t))) ≡ Some kind → IsFault T r.history l kind
+  short_legal T t kind first many same c ready wrong =
       short_kind T (end_of t.history).sized (files_in (marks_at (all_logged t))) (bytes_in (marks_at (all_logged t))) kind wrong
       (λ k is. record {
-        ready = subst (λ (n : ℕ). (is_ready n r.history ≡ true) ⊎ (is_ready n (r.history ++ events.Idle l ∷ []) ≡ true)) (sym many) (c.ready ready);
+        first = first;
+        ready = subst ReadyOn (sym many) (c.ready ready);
         wrong = ap (λ (e : EndPast). short_fault e.sized (files_in (marks_of T.opening (landed_of r.history))) (bytes_in (marks_of T.opening (landed_of r.history)))) (sym c.ends)
             ∙ ap (λ (ms : List Marked). short_fault (end_of t.history).sized (files_in ms) (bytes_in ms)) (sym (same_marks T t same c)) ∙ is;
       })
@@ -732,14 +769,14 @@ module _ (r : PlainReceiver) (l : Lane) (is : IsReceiver r) (within : l.0 < leng
   logged_sound t [] sound = sound
   logged_sound t (b ∷ bs) sound = sound
 
-  short_allowed : (u : PlainReceiver) (kind : PeerKind) → is_failure (all_logged u).answer ≡ false → Stays (record (all_logged u) { history = r.history }) l → GoesOn (past_at r l.0) true → Chose u → can_finish u ≡ true
+  short_allowed : (u : PlainReceiver) (kind : PeerKind) → has_finish r ≡ false → is_failure (all_logged u).answer ≡ false → Stays (record (all_logged u) { history = r.history }) l → GoesOn (past_at r l.0) true → Chose u → can_finish u ≡ true
       → short_fault (end_of u.history).sized (files_in (marks_at (all_logged u))) (bytes_in (marks_at (all_logged u))) ≡ Some kind → IsAllowed (terms_of (record (all_logged u) { history = r.history })) r.history (events.Peer l kind)
-  short_allowed u kind sound s on c ready short =
+  short_allowed u kind first sound s on c ready short =
       may (record (all_logged u) { history = r.history }) l true (events.Peer l kind) s sound on refl refl
-      (short_legal (terms_of (record (all_logged u) { history = r.history })) u kind (logged_many u u.unlogged ∙ c.many) (logged_opening u u.unlogged ∙ c.opening) c ready short)
+      (short_legal (terms_of (record (all_logged u) { history = r.history })) u kind first (logged_many u u.unlogged ∙ c.many) (logged_opening u u.unlogged ∙ c.opening) c ready short)
 
   listed_so : Serves r l states.SendLocalCheckpoint → IsReceiver (with_lane r l.0 record (lane_at r l.0) { state = states.SendFileChunks })
-  listed_so at = let h = fare states.SendLocalCheckpoint at in put_back r l record (lane_at r l.0) { state = states.SendFileChunks } stays (h.0, h.1, h.2)
+  listed_so at = let h = fare states.SendLocalCheckpoint at in put_back r l record (lane_at r l.0) { state = states.SendFileChunks } (λ f. refl) stays (h.0, h.1, h.2)
 
   own_lane : FaresAt r l.0
   own_lane = is.lanes l.0 within
@@ -749,10 +786,10 @@ module _ (r : PlainReceiver) (l : Lane) (is : IsReceiver r) (within : l.0 < leng
       fell_so r answers.NoMemory m refl (fails_so r l answers.NoMemory refl stays) (λ voice. memory_on (is_failure r.answer) (state_at r l.0) (lane_at r l.0) (past_at r l.0) (end_of r.history) own_lane (sym same ∙ voice))
   fails_by put t a mute (OfSender state code at reads given) =
       fell_so (noted r (events.Abort l code ∷ [])) (answers.Aborted code) true refl
-      (fails_noted r l (events.Abort l code) (answers.Aborted code) refl stays (abort_past r.history l code) refl (may r l true (events.Abort l code) stays at.sound (reading_on state at reads) refl refl tt)) (λ e. absurd (both_ways true e refl))
+      (fails_noted r l (events.Abort l code) (answers.Aborted code) refl stays (abort_past r.history l code) refl (may r l true (events.Abort l code) stays at.sound (reading_on state at reads) refl refl record { at = state; sized = (lane_at r l.0).is_sized; reads = reads_here state at reads })) (λ e. absurd (both_ways true e refl))
   fails_by put t a mute (OfPeer state kind at reads wrong) =
       fell_so (noted r (events.Peer l kind ∷ [])) (answers.Peer kind) false refl
-      (fails_noted r l (events.Peer l kind) (answers.Peer kind) refl stays (peer_past r.history l kind) refl (may r l true (events.Peer l kind) stays at.sound (reading_on state at reads) refl refl (peer_legal state put kind reads wrong)))
+      (fails_noted r l (events.Peer l kind) (answers.Peer kind) refl stays (peer_past r.history l kind) refl (may r l true (events.Peer l kind) stays at.sound (reading_on state at reads) refl refl (peer_legal state put kind at reads wrong)))
       (λ e. subst (λ (p : RecvPast). GoesOn p true) (sym (peer_past r.history l kind l.0)) (reading_on state at reads))
   fails_by put t a mute (OfShort u kind why short) =
       let c = chose_by put u why.idles in
@@ -763,9 +800,9 @@ module _ (r : PlainReceiver) (l : Lane) (is : IsReceiver r) (within : l.0 < leng
       let on = linked_idle put u why.idles in
       fell_so (noted (record (all_logged u) { history = r.history }) (events.Peer l kind ∷ [])) (answers.Peer kind) false refl
       (fails_noted (record (all_logged u) { history = r.history }) l (events.Peer l kind) (answers.Peer kind) refl s (peer_past r.history l kind) refl
-      (short_allowed u kind (logged_sound u u.unlogged rest.sound) s on c why.ready short))
+      (short_allowed u kind first (logged_sound u u.unlogged rest.sound) s on c why.ready short))
       (λ e. subst (λ (p : RecvPast). GoesOn p true) (sym (peer_past r.history l kind l.0)) on)
-  fails_by put t a mute (OfMake h at given new) =
+  fails_by put t a mute (OfMake h at sized given right new) =
       fell_so r answers.Disk false refl (fails_so r l answers.Disk refl stays) (λ e. (fare states.ReadNextCmd at).0.goes_on)
   fails_by put t a mute (OfWrite bytes b at given begun) =
       fell_so r answers.Disk false refl (fails_so r l answers.Disk refl stays) (λ e. (fare states.TakeBlock at).0.goes_on)

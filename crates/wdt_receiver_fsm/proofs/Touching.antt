@@ -187,7 +187,7 @@ fails_touch r t l put a mute (OfShort u kind why short) =
     let calm : PlainReceiver = record (all_logged u) { history = r.history } in
     touches_both r (record (all_logged u) { history = r.history }) _ l (unnoted r (all_logged u) l (logged_touch r u l (idles_touch r u l put why.idles)))
     (notes (record (all_logged u) { history = r.history }) l (events.Peer l kind ∷ []) (refl, tt))
-fails_touch r t l put a mute (OfMake h at given new) = touches_none r l
+fails_touch r t l put a mute (OfMake h at sized given right new) = touches_none r l
 fails_touch r t l put a mute (OfWrite bytes b at given begun) = touches_none r l
 fails_touch r t l put a mute (OfLog b lands full) = landed_touch r l b
 fails_touch r t l put a mute (OfFinish u why) = idles_touch r u l put why.idles

@@ -1,5 +1,7 @@
 pub mod Acts
+pub mod Batched
 pub mod Calls
+pub mod Causes
 pub mod Frames
 pub mod Legal
 pub mod Logging
@@ -15,3 +17,4 @@ pub mod Sets
 pub mod Touches
 pub mod Turn
 pub mod Worked
+pub mod Writes

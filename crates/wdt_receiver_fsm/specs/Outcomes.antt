@@ -150,11 +150,11 @@ pub data Mistakes (r : PlainReceiver) (l : Lane) (state : RecvState) (put : Put)
   -- a frame that has no row
   NoPlace : (frame : Frame) (command : ℕ) → put ≡ Given (inputs.Got frame) → row_of (lane_at r l.0).is_sized state (inputs.Got frame) ≡ Unexpected (place_of state) command → kind ≡ peers.Unexpected (place_of state) command → Mistakes r l state put kind
   -- settings with a wrong field
-  WrongSettings : (settings : Settings) (field : ℕ) → put ≡ Given (inputs.Got (frames.Settings settings)) → settings_fault (length r.lanes) (end_of r.history).met l.0 (lane_at r l.0).conn settings ≡ Some field → kind ≡ peers.BadSettings field → Mistakes r l state put kind
+  WrongSettings : (settings : Settings) (field : ℕ) → put ≡ Given (inputs.Got (frames.Settings settings)) → state ≡ states.ReadSettings → settings_fault (length r.lanes) (end_of r.history).met l.0 (lane_at r l.0).conn settings ≡ Some field → kind ≡ peers.BadSettings field → Mistakes r l state put kind
   -- other totals than the first
-  OtherSize : (files bytes : ℕ) → put ≡ Given (inputs.Got (frames.Size files bytes)) → size_fault (end_of r.history).sized files bytes ≡ Some kind → Mistakes r l state put kind
+  OtherSize : (files bytes : ℕ) → put ≡ Given (inputs.Got (frames.Size files bytes)) → state ≡ states.ReadNextCmd → (lane_at r l.0).is_sized ≡ false → size_fault (end_of r.history).sized files bytes ≡ Some kind → Mistakes r l state put kind
   -- a block that may not begin
-  WrongBlock : (header : Header) → put ≡ Given (inputs.Got (frames.Block header)) → block_fault r.known (marks_at r) (begun_blocks r) (length (past_at r l.0).landed) header ≡ Some kind → Mistakes r l state put kind
+  WrongBlock : (header : Header) → put ≡ Given (inputs.Got (frames.Block header)) → state ≡ states.ReadNextCmd → (lane_at r l.0).is_sized ≡ true → block_fault r.known (marks_at r) (begun_blocks r) (length (past_at r l.0).landed) header ≡ Some kind → Mistakes r l state put kind
 
 -- the end fails with this answer, from this plain receiver on
 pub data Fails (r : PlainReceiver) (l : Lane) (put : Put) : PlainReceiver → EndAnswer → Bool → Type 0 where
@@ -167,7 +167,7 @@ pub data Fails (r : PlainReceiver) (l : Lane) (put : Put) : PlainReceiver → En
   -- at the finish something else is there than was to be sent; what landed is logged
   OfShort : (t : PlainReceiver) (kind : PeerKind) → Finishes r l put t → short_fault (end_of t.history).sized (files_in (marks_at (all_logged t))) (bytes_in (marks_at (all_logged t))) ≡ Some kind → Fails r l put (noted (record (all_logged t) { history = r.history }) (events.Peer l kind ∷ [])) (answers.Peer kind) false
   -- the disk failed as a file was made
-  OfMake : (header : Header) → Serves r l states.ReadNextCmd → put ≡ Given (inputs.Got (frames.Block header)) → is_new r.known header ≡ true → Fails r l put r answers.Disk false
+  OfMake : (header : Header) → Serves r l states.ReadNextCmd → (lane_at r l.0).is_sized ≡ true → put ≡ Given (inputs.Got (frames.Block header)) → block_fault r.known (marks_at r) (begun_blocks r) (length (past_at r l.0).landed) header ≡ None → is_new r.known header ≡ true → Fails r l put r answers.Disk false
   -- as a piece was written
   OfWrite : (bytes : List ℕ) (b : Block) → Serves r l states.TakeBlock → put ≡ Bytes bytes → (past_at r l.0).begun ≡ Some b → Fails r l put r answers.Disk false
   -- as a landed block was logged

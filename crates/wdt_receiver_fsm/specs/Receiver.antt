@@ -1,5 +1,5 @@
 -- What every plain receiver keeps, also one that has failed.
-use Rattle.std.specs.Prelude.{◌≡◌, ◌≢◌, ◌⊎◌, ℕ, ◌<◌, ◌≤◌, Bool, true, false, List, [], length, Option, Some, None}
+use Rattle.std.specs.Prelude.{◌≡◌, ◌≢◌, ◌⊎◌, ℕ, ◌<◌, ◌≤◌, Bool, true, false, List, [], length, map, Option, Some, None}
 use Rattle.wdt_units.specs.declared.limits.TheConstants.{MAX_CONNECTIONS, MAX_TRIES}
 use Rattle.wdt_units.specs.declared.blocks.Block.{Block}
 use Rattle.wdt_sender_fsm.specs.declared.answers.EndAnswer.{EndAnswer}
@@ -11,9 +11,13 @@ use Rattle.wdt_receiver_fsm.specs.Legal.{IsLegal, Terms}
 use Rattle.wdt_receiver_fsm.specs.PlainReceiver.{PlainReceiver, has_finish, lane_at, past_at}
 use Rattle.wdt_receiver_fsm.specs.ReceiverHistory.{EndPast, RecvPast, end_of}
 
+-- the greatest number of a connection that was read on a lane
+abbrev pub conn_of : RecvLane → ℕ
+conn_of lane = lane.conn
+
 -- what its history is judged by
 abbrev pub terms_of : PlainReceiver → Terms
-terms_of r = record { lanes = length r.lanes; opening = r.opening; known = r.known }
+terms_of r = record { lanes = length r.lanes; opening = r.opening; known = r.known; conns = map conn_of r.lanes }
 
 -- ---- a lane
 
@@ -85,7 +89,7 @@ Fares failed states.ReadNextCmd lane past end = Serves past end × (past.begun �
 Fares failed states.TakeBlock lane past end = Serves past end × HasLeft past.begun lane.left × (lane.is_sized ≡ true) × (end.sized ≢ None)
 Fares failed states.SendWait lane past end = Waits past end × (lane.is_sized ≡ true)
 Fares failed states.WaitForFinish lane past end = Waits past end × (lane.is_sized ≡ true)
-Fares failed states.SendGlobalCheckpoint lane past end = Serves past end × (past.begun ≡ None) × (lane.is_sized ≡ true) × (end.sized ≢ None)
+Fares failed states.SendGlobalCheckpoint lane past end = Serves past end × (past.begun ≡ None) × (lane.is_sized ≡ true) × (end.sized ≢ None) × (past.telling ≢ [])
 Fares failed states.SendDone lane past end = Concludes past end
 Fares failed states.ReadAck lane past end = Concludes past end
 Fares failed states.SendAbort lane past end = Warns past failed

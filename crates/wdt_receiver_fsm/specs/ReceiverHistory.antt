@@ -309,6 +309,11 @@ landed_from begun (_ ∷ es) = landed_from begun es
 unfoldable pub landed_of : List RecvEvent → List Block
 landed_of g = landed_from (λ k. None) g
 
+-- an entry that lands no block
+abbrev pub lands_none : RecvEvent → Bool
+lands_none (Land l) = false
+lands_none e = true
+
 -- ---- whose entry it is
 
 -- the lane whose step an entry is of: the finish is of none

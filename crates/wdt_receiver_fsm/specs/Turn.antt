@@ -334,6 +334,11 @@ abbrev pub is_over : Row → Bool
 is_over Over = true
 is_over _ = false
 
+-- memory ran out
+abbrev pub is_starved : Row → Bool
+is_starved (Starved mute) = true
+is_starved _ = false
+
 -- a step by the rules: a lane that has ended does nothing more, on a failed end a lane gives up, and
 -- else the row is done. A lane that the receiver closed has ended.
 abbrev pub ruled : PlainReceiver → Lane → Row → Plan Step

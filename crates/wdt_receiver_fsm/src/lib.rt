@@ -21,8 +21,9 @@ pub use acts::RecvAct;
 pub use events::RecvEvent;
 pub use inputs::RecvIn;
 pub use laws::{
-    acts_follow_from_lanes, receivers_stay_receivers, steps_have_outcomes, steps_touch_their_lane,
-    worked_steps,
+    a_receiver_speaks_in_turn, acts_follow_from_lanes, batches_add_up, failures_have_causes,
+    lanes_are_sound, pasts_follow_the_history, receivers_stay_receivers, steps_follow_their_rows,
+    steps_have_outcomes, steps_touch_their_lane, what_is_written_fits, worked_steps,
 };
 pub use rows::{RecvRow, allowed, row};
 pub use states::{RecvLane, RecvState};
