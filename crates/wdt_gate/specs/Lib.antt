@@ -1,0 +1,3 @@
+pub mod Told
+pub mod Passes
+pub mod Desks
