@@ -1,0 +1,11 @@
+pub mod Calls
+pub mod Items
+pub mod Links
+pub mod Memory
+pub mod Owing
+pub mod Reasons
+pub mod Saying
+pub mod Streams
+pub mod Talk
+pub mod Traffic
+pub mod Wires
