@@ -1,9 +1,8 @@
 -- What has landed adds up behind each end of a step.
-use Rattle.std.proofs.Common.{◌≡◌, ◌≢◌, ◌⊎◌, inl, inr, ℕ, zero, suc, ◌+◌, ◌-◌, ◌==◌, ◌<◌, ◌≤◌, ◌||◌, nat_le, nat_lt, not, List, [], ◌∷◌, ◌++◌, length, filter, map, sum_by, replicate, Bool, true, false, if◌then◌else◌, IsTrue, slice_get, Option, Some, None, is_some, subst, sym, ap, ◌∙◌, refl, arith, append_assoc, append-nil, eq-eqb}
+use Rattle.std.proofs.Common.{◌≡◌, ◌≢◌, ◌⊎◌, inl, inr, ℕ, zero, suc, ◌+◌, ◌-◌, ◌==◌, ◌<◌, ◌≤◌, ◌||◌, nat_le, not, List, [], ◌∷◌, ◌++◌, length, filter, map, sum_by, replicate, Bool, true, false, if◌then◌else◌, IsTrue, Option, Some, None, is_some, subst, sym, ap, ◌∙◌, refl, arith, append_assoc, append-nil}
 use Rattle.std.proofs.lemmas.Bool.{both_ways}
 use Rattle.std.proofs.lemmas.Bool.Decides.{nat_tests}
 use Rattle.std.proofs.lemmas.List.Elements.{filter-append}
-use Rattle.std.proofs.lemmas.Option.{same_Some}
 use Rattle.std.proofs.lemmas.List.Sums.{count_by-le-length, length-filter, sum_by_push}
 use Rattle.wdt_units.specs.declared.blocks.Block.{Block}
 use Rattle.wdt_units.specs.declared.limits.TheConstants.{MAX_BLOCKS}
@@ -12,7 +11,7 @@ use Rattle.wdt_codec.specs.declared.frames.Settings.{Settings}
 use Rattle.wdt_logfmt.specs.Adding.{all_added}
 use Rattle.wdt_logfmt.specs.Batches.{entries_of, files_behind, files_or, have_known_files}
 use Rattle.wdt_logfmt.specs.Beginning.{KnownFile, length_of}
-use Rattle.wdt_logfmt.specs.Marks.{Marked, is_marked, just_marked, mark_block, marked_of, marks_from, marks_of, with_block}
+use Rattle.wdt_logfmt.specs.Marks.{Marked, mark_block, marked_of, marks_from, marks_of}
 use Rattle.wdt_logfmt.specs.Spelling.{written_version}
 use Rattle.wdt_logfmt.specs.View.{Meaning, NamedFile, is_view}
 use Rattle.wdt_logfmt.proofs.ForCallers.{batch-view, blocks_marked}
@@ -420,48 +419,3 @@ marks_follow r is on =
 pub marks_logged : (r : PlainReceiver) → IsBatched r → r.unlogged ≡ [] → marks_at r ≡ map marked_of r.log.files
 marks_logged r is none =
     ap (λ (bs : List Block). marks_of r.opening bs) (is.adds_up.landed ∙ ap (λ (bs : List Block). is.adds_up.logged ++ bs) none ∙ append-nil is.adds_up.logged) ∙ is.adds_up.marks
-
--- ---- each landed block's file is named
-
-or_true : (x : Bool) → (x || true) ≡ true
-or_true true = refl
-or_true false = refl
-
--- marks with a block more, by whether a file is the block's, and above it
-abbrev Behind : Block → Marked → List Marked → Bool → Bool → List Marked
-Behind b m ms c d =
-    if c then record { number = m.number; spans = with_block m.spans b } ∷ ms
-    else if d then just_marked b ∷ m ∷ ms
-    else m ∷ mark_block ms b
-
-marked_own : (ms : List Marked) (b : Block) → is_marked (mark_block ms b) b.file ≡ true
-marked_own [] b = ap (λ (x : Bool). x || false) (eq-eqb b.file b.file refl)
-marked_own (m ∷ ms) b = go (marked_own ms b) (m.number == b.file) (nat_lt b.file m.number) refl
-  where
-    go : is_marked (mark_block ms b) b.file ≡ true → (c d : Bool) → (m.number == b.file) ≡ c → is_marked (Behind b m ms c d) b.file ≡ true
-    go later true d is = ap (λ (x : Bool). x || is_marked ms b.file) is
-    go later false true is = ap (λ (x : Bool). x || is_marked (m ∷ ms) b.file) (eq-eqb b.file b.file refl)
-    go later false false is = ap (λ (x : Bool). (m.number == b.file) || x) later ∙ or_true (m.number == b.file)
-
-marked_still : (ms : List Marked) (b : Block) (n : ℕ) → is_marked ms n ≡ true → is_marked (mark_block ms b) n ≡ true
-marked_still [] b n is = absurd (cc)
-marked_still (m ∷ ms) b n is = go (marked_still ms b n) (m.number == b.file) (nat_lt b.file m.number) (m.number == n) is refl
-  where
-    go : (is_marked ms n ≡ true → is_marked (mark_block ms b) n ≡ true) → (c d e : Bool) → (e || is_marked ms n) ≡ true → (m.number == n) ≡ e → is_marked (Behind b m ms c d) n ≡ true
-    go later true d e is same = ap (λ (x : Bool). x || is_marked ms n) same ∙ is
-    go later false true e is same = ap (λ (x : Bool). (b.file == n) || x) (ap (λ (x : Bool). x || is_marked ms n) same ∙ is) ∙ or_true (b.file == n)
-    go later false false true is same = ap (λ (x : Bool). x || is_marked (mark_block ms b) n) same
-    go later false false false is same = ap (λ (x : Bool). (m.number == n) || x) (later is) ∙ or_true (m.number == n)
-
-marked_on : (ms : List Marked) (bs : List Block) (n : ℕ) → is_marked ms n ≡ true → is_marked (marks_from ms bs) n ≡ true
-marked_on ms [] n is = is
-marked_on ms (b ∷ bs) n is = marked_on (mark_block ms b) bs n (marked_still ms b n is)
-
-named_from : (ms : List Marked) (bs : List Block) (k : ℕ) (b : Block) → slice_get bs k ≡ Some b → is_marked (marks_from ms bs) b.file ≡ true
-named_from ms [] k b is = absurd (cc)
-named_from ms (c ∷ bs) zero b is = subst (λ (x : Block). is_marked (marks_from (mark_block ms c) bs) x.file ≡ true) (same_Some c b is) (marked_on (mark_block ms c) bs c.file (marked_own ms c))
-named_from ms (c ∷ bs) (suc k) b is = named_from (mark_block ms c) bs k b is
-
-pub landed_named : (fs : List NamedFile) (bs : List Block) (k : ℕ) (b : Block) → slice_get bs k ≡ Some b → is_marked (marks_of fs bs) b.file ≡ true
-unfolding marks_of
-landed_named fs bs k b is = named_from (map marked_of fs) bs k b is

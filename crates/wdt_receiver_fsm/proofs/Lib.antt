@@ -7,6 +7,7 @@ mod HeldActs
 mod Judged
 mod Keeping
 mod LaneLists
+mod Marking
 mod Receiving
 mod RowSteps
 mod Sound

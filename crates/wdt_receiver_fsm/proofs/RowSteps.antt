@@ -121,17 +121,17 @@ misspeaks_step r l put kind m = mistake_step r l m.state put kind m.serves m.rea
 
 module _ (r : PlainReceiver) (l : Lane) where
   -- the step of this row is the choice of the idle lane
-  record Chooses (put : Put) (t : PlainReceiver) : Type 0 where
-    row : Row
-    voice : is_mute row ≡ false
-    step : turn_plan r l put ≡ idle_plan r.history t l row
+  pub record Chooses (put : Put) (t : PlainReceiver) : Type 0 where
+    pub row : Row
+    pub voice : is_mute row ≡ false
+    pub step : turn_plan r l put ≡ idle_plan r.history t l row
 
   chooses_by : (state : RecvState) (put : Put) (input : RecvIn) (row : Row) (t u : PlainReceiver) → put ≡ Given input → Serves r l state → row_of (lane_at r l.0).is_sized state input ≡ row → is_over row ≡ false → is_starved row ≡ false → turn_row r l row ≡ idle_plan r.history u l row → t ≡ u → turn_plan r l put ≡ idle_plan r.history t l row
   chooses_by state put input row t u given at is lives fed_on step same =
       ap (λ (x : Put). turn_plan r l x) given ∙ row_step r l (Given input) row (ap (λ (x : RecvState). row_of (lane_at r l.0).is_sized x input) at.here ∙ is) at.sound lives fed_on ∙ step
       ∙ ap (λ (x : PlainReceiver). idle_plan r.history x l row) (sym same)
 
-  chooses : (put : Put) (t : PlainReceiver) → Idles r l put t → Chooses put t
+  pub chooses : (put : Put) (t : PlainReceiver) → Idles r l put t → Chooses put t
   chooses put t (ByDone at sized given is) = record {
     row = Done;
     voice = refl;

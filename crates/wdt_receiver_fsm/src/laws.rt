@@ -1,5 +1,5 @@
 //! Laws of a receiver's definitions.
-ghost use Rattle.std.specs.Prelude.{◌≡◌, ◌⊎◌, ◌<◌, ◌≤◌, ℕ, Bool, true, false, List, ◌∷◌, ◌++◌, [], length, map, replicate, slice_get, IsTrue, Some};
+ghost use Rattle.std.specs.Prelude.{◌≡◌, ◌⊎◌, ◌+◌, ◌<◌, ◌≤◌, ℕ, Bool, true, false, List, ◌∷◌, ◌++◌, [], length, map, replicate, slice_get, IsTrue, Some};
 ghost use Rattle.wdt_units.specs.declared.numbers.Lane.{Lane};
 ghost use Rattle.wdt_units.specs.declared.blocks.Block.{Block};
 ghost use Rattle.wdt_codec.specs.declared.frames.Frame.{Frame};
@@ -21,8 +21,8 @@ ghost use Rattle.wdt_receiver_fsm.specs.Legal.{IsLegal, IsOff, IsSound, Terms};
 ghost use Rattle.wdt_receiver_fsm.specs.Outcomes.{Comes};
 ghost use Rattle.wdt_receiver_fsm.specs.Phases.{AsksPiece, FitsLane, StandsIn, is_named, phase_by, phase_heard, phase_taking, phase_with};
 ghost use Rattle.wdt_receiver_fsm.specs.Plan.{EndsIn, ends};
-ghost use Rattle.wdt_logfmt.specs.Marks.{is_marked, marked_of};
-ghost use Rattle.wdt_logfmt.specs.View.{Meaning, is_view};
+ghost use Rattle.wdt_logfmt.specs.Marks.{is_marked, is_there, marked_of, marks_of};
+ghost use Rattle.wdt_logfmt.specs.View.{Meaning, NamedFile, is_view};
 ghost use Rattle.wdt_receiver_fsm.specs.Batched.{CanLog, Continues, IsBatched};
 ghost use Rattle.wdt_receiver_fsm.specs.Logging.{all_logged, log_after};
 ghost use Rattle.wdt_receiver_fsm.specs.PlainReceiver.{PlainReceiver, failed, has_finish, lane_at, marks_at, new_lane, noted, opened, past_at, state_at};
@@ -118,7 +118,8 @@ pub fn receivers_stay_receivers()
 pub fn lanes_are_sound()
     ensures sound { (t : Terms) (g : List RecvEvent) (l : ℕ) → IsLegal t g → IsSound (past_of g l) }
     ensures tells { (t : Terms) (g : List RecvEvent) (l q : ℕ) → IsLegal t g → has (past_of g l).telling q ≡ has (confirm_of g q).tellers l }
-    ensures closed { (r : PlainReceiver) (l : ℕ) → IsReceiver r → l < length r.lanes → (past_at r l).is_closed ≡ true → (state_at r l ≡ states.Ended) × ((past_at r l).is_acked ≡ false) × IsOff (past_at r l) }
+    ensures closed { (r : PlainReceiver) (l : ℕ) → IsReceiver r → l < length r.lanes → (past_at r l).is_closed ≡ true
+        → (state_at r l ≡ states.Ended) × ((past_at r l).is_acked ≡ false) × IsOff (past_at r l) }
 {}
 
 /// The receiver's end of what the two ends say in turn: what a lane does fits its phase; its phase with what
@@ -135,15 +136,17 @@ pub fn a_receiver_speaks_in_turn()
 
 /// What landed adds up: block for block it is what is logged of it and then what isn't, of which an end that
 /// hasn't failed has less than a batch behind each end of each step. Once all that landed is logged, the log
-/// names and covers what is there: after the finish, it does. Each landed block's file is named, an empty one's,
-/// too. That what is still to be logged continues the log is asked of the caller.
+/// names and covers what is there: after the finish, it does. Behind blocks that landed, each one's file is named,
+/// an empty one's, too, and each of its positions is there. That what is still to be logged continues the log is asked of the caller.
 pub fn batches_add_up()
     ensures begins { (log : Meaning) (batch n : ℕ) → IsTrue (is_view log.files) → 0 < batch → IsBatched (opened log batch (replicate n new_lane)) }
     ensures keeps { (r : PlainReceiver) (l : Lane) (put : Put) (step : Step) → IsBatched r → CanLog r l put → EndsIn (Unit {0}) (turn_plan r l put) step → IsBatched step.1 }
     ensures flushes { (r : PlainReceiver) → IsBatched r → Continues r.known r.log.files r.unlogged → IsBatched (all_logged r) }
     ensures follows { (r : PlainReceiver) → IsBatched r → Continues r.known r.log.files r.unlogged → marks_at r ≡ map marked_of (log_after r).files }
     ensures finished { (r : PlainReceiver) → IsReceiver r → IsBatched r → has_finish r ≡ true → (r.unlogged ≡ []) × (marks_at r ≡ map marked_of r.log.files) }
-    ensures named { (r : PlainReceiver) (k : ℕ) (b : Block) → slice_get (landed_of r.history) k ≡ Some b → is_marked (marks_at r) b.file ≡ true }
+    ensures named { (files : List NamedFile) (blocks : List Block) (k : ℕ) (b : Block) → slice_get blocks k ≡ Some b → is_marked (marks_of files blocks) b.file ≡ true }
+    ensures covered { (files : List NamedFile) (blocks : List Block) (k : ℕ) (b : Block) (position : ℕ) → IsTrue (is_view files) → slice_get blocks k ≡ Some b
+        → b.offset ≤ position → position < b.offset + b.length → is_there (marks_of files blocks) b.file position ≡ true }
 {}
 
 /// What a receiver writes is its own to say and lies in the grammar's ranges, where what the log said as it was

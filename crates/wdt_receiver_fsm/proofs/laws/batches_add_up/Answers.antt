@@ -1,5 +1,5 @@
-use Rattle.wdt_receiver_fsm.proofs.Batching.{flush_batched, landed_named, marks_follow, marks_logged, opened_batched, turn_batched}
-use Rattle.wdt_receiver_fsm.specs.ReceiverHistory.{landed_of}
+use Rattle.wdt_receiver_fsm.proofs.Batching.{flush_batched, marks_follow, marks_logged, opened_batched, turn_batched}
+use Rattle.wdt_receiver_fsm.proofs.Marking.{landed_named, landed_there}
 use Rattle.wdt_receiver_fsm.proofs.laws.batches_add_up.Goals as goal
 
 pub returns-clause-begins : goal.returns-clause-begins
@@ -18,4 +18,7 @@ pub returns-clause-finished : goal.returns-clause-finished
 returns-clause-finished c = λ r is batched come. (is.finished come, marks_logged r batched (is.finished come))
 
 pub returns-clause-named : goal.returns-clause-named
-returns-clause-named c = λ r k b is. landed_named r.opening (landed_of r.history) k b is
+returns-clause-named c = λ files blocks k b is. landed_named files blocks k b is
+
+pub returns-clause-covered : goal.returns-clause-covered
+returns-clause-covered c = λ files blocks k b position view is low high. landed_there files blocks k b position view is low high
