@@ -1,0 +1,13 @@
+use Rattle.std.proofs.Common.{sym, subst}
+use Rattle.wdt_notes.specs.Notable.{MayNote}
+use Rattle.wdt_notes.specs.View.{NotesView}
+use Rattle.wdt_notes.proofs.Keeps.{can_pass_of, kept-more}
+use Rattle.wdt_notes.proofs.notes.Notes.note.Goals as goal
+
+pub pass-requires : goal.pass-requires
+pass-requires c = can_pass_of c.self.invariant c.args.event (subst (λ (v : NotesView). MayNote v.lanes v.history c.args.event) (sym c.self.view_is) c.requires.allowed)
+
+pub invariant_of-self : goal.invariant_of-self
+invariant_of-self c =
+    rw (c.push_reserved.ensures.items, c.note.ensures, c.pass.ensures, c.count.ensures)
+    (kept-more c.self.invariant c.args.event (subst (λ (v : NotesView). MayNote v.lanes v.history c.args.event) (sym c.self.view_is) c.requires.allowed))
