@@ -37,7 +37,7 @@ pub trait Hub<M: Machine>: Sized {
 
     /// One turn of the pass's lane. It waits while other lanes take theirs.
     ///
-    /// `Err` is want of memory, and hands the input back: the turn wasn't made.
+    /// `Err` is want of memory: it hands the input back, and the machine's history is as it was.
     fn turn(&self, pass: &mut Self::Pass, put: M::Put) -> Result<M::Act, M::Put>
         requires has { has self.now pass.old }
         requires fits { M.fits put }

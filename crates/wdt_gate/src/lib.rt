@@ -6,8 +6,8 @@
 //!
 //! A hub may tell what its passes know: the entries that their turns added, and the history that they
 //! have seen. A lock tells nothing of what lies under it, so the passes of `MutexHub` tell no
-//! history. What is known there is that every turn was one of the machine, at some moment of a legal
-//! history, and how many turns were counted.
+//! history. What is known there is that each answer is the machine's, at some moment of a legal
+//! history, and how many turns the passes made.
 //!
 //! Nothing is promised of when a lane gets its turn, nor that a lane which waits goes on.
 #![tactic(auto)]

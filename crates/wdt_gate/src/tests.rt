@@ -1,5 +1,6 @@
 //! What no clause says: that lanes which wait for one another come to their end.
-ghost use Rattle.std.specs.Prelude.{◌≡◌};
+ghost use Rattle.std.specs.Prelude.{◌≡◌, All, map};
+ghost use Rattle.wdt_gate.specs.Told.{upto};
 
 use crate::{Hub, MutexHub, MutexPass};
 use std::alloc::{AllocError, Global};
@@ -142,7 +143,20 @@ fn two_lanes_count_in_turn(rt: HostRuntime) -> Result<(), Fail> {
     Ok(())
 }
 
-// The machine of a hub that is closed as soon as it is open.
+// The machine that a hub gives back, whatever the hub.
+fn machine_of<M: Machine, H: Hub<M> + Drop>(hub: H, passes: Vec<H::Pass>) -> Option<M>
+where
+    H::Pass: Drop,
+    requires passes { All (H.has hub) passes.items }
+    requires all { map H.lane passes.items ≡ upto 0 (H.lanes hub) }
+{
+    match hub.close(passes) {
+        Ok(machine) => Some(machine),
+        Err(_refused) => None,
+    }
+}
+
+// The count of a hub's machine, where the hub is closed as soon as it is open.
 fn closed<R: Wait + Drop, L: Ledger>(rt: R, alloc: Global, blank: Blank, lanes: u8) -> Option<u64>
     requires name { blank.name ≡ L.name }
     requires parts { (blank.parts ≡ L.parts) × (blank.parts ≡ lanes) }
@@ -153,10 +167,8 @@ fn closed<R: Wait + Drop, L: Ledger>(rt: R, alloc: Global, blank: Blank, lanes: 
     let Ok((hub, passes)) = MutexHub::<R, InTurn, L>::open(rt, alloc, blank, machine, lanes) else {
         return None;
     };
-    match hub.close(passes) {
-        Ok(machine) => Some(machine.count()),
-        Err(_refused) => None,
-    }
+    let machine = machine_of(hub, passes)?;
+    Some(machine.count())
 }
 
 #[test]
