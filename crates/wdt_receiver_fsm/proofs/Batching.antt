@@ -1,5 +1,5 @@
 -- What has landed adds up behind each end of a step.
-use Rattle.std.proofs.Common.{◌≡◌, ◌≢◌, ◌⊎◌, inl, inr, ℕ, zero, suc, ◌+◌, ◌-◌, ◌==◌, ◌<◌, ◌≤◌, ◌||◌, nat_le, not, List, [], ◌∷◌, ◌++◌, length, filter, map, sum_by, replicate, Bool, true, false, if◌then◌else◌, IsTrue, Option, Some, None, is_some, subst, sym, ap, ◌∙◌, refl, arith, append_assoc, append-nil}
+use Rattle.std.proofs.Common.{◌≡◌, ℕ, zero, suc, ◌+◌, ◌==◌, ◌<◌, ◌||◌, nat_le, not, List, [], ◌∷◌, ◌++◌, length, filter, map, sum_by, replicate, Bool, true, false, if◌then◌else◌, Option, Some, None, is_some, subst, sym, ap, ◌∙◌, refl, arith, append_assoc, append-nil}
 use Rattle.std.proofs.lemmas.Bool.{both_ways}
 use Rattle.std.proofs.lemmas.Bool.Decides.{nat_tests}
 use Rattle.std.proofs.lemmas.List.Elements.{filter-append}
@@ -9,7 +9,7 @@ use Rattle.wdt_units.specs.declared.limits.TheConstants.{MAX_BLOCKS}
 use Rattle.wdt_units.specs.declared.numbers.Lane.{Lane}
 use Rattle.wdt_codec.specs.declared.frames.Settings.{Settings}
 use Rattle.wdt_logfmt.specs.Adding.{all_added}
-use Rattle.wdt_logfmt.specs.Batches.{entries_of, files_behind, files_or, have_known_files}
+use Rattle.wdt_logfmt.specs.Batches.{entries_of, files_behind, files_or}
 use Rattle.wdt_logfmt.specs.Beginning.{KnownFile, length_of}
 use Rattle.wdt_logfmt.specs.Marks.{Marked, mark_block, marked_of, marks_from, marks_of}
 use Rattle.wdt_logfmt.specs.Spelling.{written_version}
@@ -19,14 +19,12 @@ use Rattle.wdt_sender_fsm.specs.declared.answers.EndAnswer.{EndAnswer}
 use Rattle.wdt_sender_fsm.specs.Rules.{is_failure, by_voice}
 use Rattle.wdt_receiver_fsm.specs.declared.events.RecvEvent.{RecvEvent}
 use Rattle.wdt_receiver_fsm.specs.declared.events.RecvEvent.TheVariants as events
-use Rattle.wdt_receiver_fsm.specs.declared.states.RecvLane.{RecvLane}
-use Rattle.wdt_receiver_fsm.specs.declared.states.RecvState.TheVariants as states
 use Rattle.wdt_receiver_fsm.specs.Batched.{AddsUp, CanLog, Continues, IsBatched, IsBelowBatch, is_filled}
-use Rattle.wdt_receiver_fsm.specs.Logging.{all_logged, all_logged_by, log_after, pending}
+use Rattle.wdt_receiver_fsm.specs.Logging.{all_logged, all_logged_by, log_after}
 use Rattle.wdt_receiver_fsm.specs.Outcomes.{Outcome, Rested, Left, Warned, Failed, GivenUp, Listened, Linked, Greeted, Listed, ReadOn, Sized, Begun, Taken, Concluded, Told, Waited, Ended, Acknowledged, came_to, ComesOf, Lands, landed_by, Idles, ByDone, ByWait, ByWaking, Fails, OfMemory, OfSender, OfPeer, OfShort, OfMake, OfWrite, OfLog, OfFinish, Listens, AtFirst, ByNoLink, ByLoss, ReadsOn, ByGreeting, ByChunks, ByMarks, ByLanding, ByLogging, Concludes, WasFinished, IsFinished, Begins, OfKnown, OfNew}
 use Rattle.wdt_receiver_fsm.specs.Plan.{EndsIn}
-use Rattle.wdt_receiver_fsm.specs.PlainReceiver.{PlainReceiver, begun_at, bytes_of, failed, has_finish, is_batch_full, lane_at, marks_at, new_lane, noted, opened, past_at, with_lane}
-use Rattle.wdt_receiver_fsm.specs.ReceiverHistory.{RecvPast, begun_after, begun_list, end_of, landed_from, landed_of, lands_none, no_past, past_after, past_from, past_of, with_begun_at}
+use Rattle.wdt_receiver_fsm.specs.PlainReceiver.{PlainReceiver, bytes_of, failed, has_finish, is_batch_full, lane_at, marks_at, new_lane, noted, opened, past_at, with_lane}
+use Rattle.wdt_receiver_fsm.specs.ReceiverHistory.{RecvPast, begun_list, end_of, landed_from, landed_of, lands_none, no_past, past_after, past_from, past_of, with_begun_at}
 use Rattle.wdt_receiver_fsm.specs.Sets.{set_of}
 use Rattle.wdt_receiver_fsm.specs.Turn.{Put, Step, begins_by, given_up, greets_by, lands, leaves, meets, met_by, next_take, sized_by, tells_failure, turn_plan, waits_by}
 use Rattle.wdt_receiver_fsm.proofs.Comes.{end_comes}

@@ -1,5 +1,5 @@
 -- Each end of a step's plan is one of the outcomes: the one walk over the whole table.
-use Rattle.std.proofs.Common.{◌≡◌, ◌⊎◌, inl, inr, ℕ, zero, suc, ◌-◌, List, [], ◌∷◌, ◌++◌, length, Bool, true, false, not, Option, Some, None, subst, sym, ap, ◌∙◌, refl, is_some, arith}
+use Rattle.std.proofs.Common.{◌≡◌, ◌⊎◌, inl, inr, ℕ, zero, suc, ◌-◌, List, [], ◌∷◌, length, Bool, true, false, Option, Some, None, subst, sym, ap, ◌∙◌, refl, arith}
 use Rattle.wdt_units.specs.declared.blocks.Block.{Block}
 use Rattle.wdt_units.specs.declared.blocks.Header.{Header}
 use Rattle.wdt_units.specs.declared.numbers.Lane.{Lane}
@@ -14,7 +14,6 @@ use Rattle.wdt_sender_fsm.specs.declared.peers.PeerKind.{PeerKind}
 use Rattle.wdt_sender_fsm.specs.declared.peers.PeerKind.TheVariants as peers
 use Rattle.wdt_sender_fsm.specs.Rows.{command_of}
 use Rattle.wdt_sender_fsm.specs.Rules.{is_failure, starved, by_rules, by_voice}
-use Rattle.wdt_receiver_fsm.specs.declared.acts.RecvAct.TheVariants as acts
 use Rattle.wdt_receiver_fsm.specs.declared.events.RecvEvent.{RecvEvent}
 use Rattle.wdt_receiver_fsm.specs.declared.events.RecvEvent.TheVariants as events
 use Rattle.wdt_receiver_fsm.specs.declared.inputs.RecvIn.{RecvIn}
@@ -22,13 +21,13 @@ use Rattle.wdt_receiver_fsm.specs.declared.inputs.RecvIn.TheVariants as inputs
 use Rattle.wdt_receiver_fsm.specs.declared.states.RecvState.{RecvState}
 use Rattle.wdt_receiver_fsm.specs.declared.states.RecvState.TheVariants as states
 use Rattle.wdt_receiver_fsm.specs.Frames.{block_fault, settings_fault, short_fault, size_fault}
-use Rattle.wdt_receiver_fsm.specs.Logging.{all_logged, all_logged_by, flush_by, flush_plan}
-use Rattle.wdt_receiver_fsm.specs.Outcomes.{Rested, Left, Warned, Failed, GivenUp, Listened, Linked, Greeted, Listed, ReadOn, Sized, Begun, Taken, Concluded, Told, Waited, Ended, Acknowledged, Serves, is_linked, WasOver, WasStray, WasSettled, WasNoBlock, WasMute, WasTold, Lands, landed_by, Idles, ByDone, ByWait, ByWaking, Finishes, Mistakes, NoFrame, NoPlace, WrongSettings, OtherSize, WrongBlock, Fails, OfMemory, OfSender, OfPeer, OfShort, OfMake, OfWrite, OfLog, OfFinish, Listens, AtFirst, ByNoLink, ByLoss, ReadsOn, ByGreeting, ByChunks, ByMarks, ByLanding, ByLogging, Concludes, WasFinished, IsFinished, Begins, OfKnown, OfNew, IsIdle, Takes, ComesOf, Comes}
+use Rattle.wdt_receiver_fsm.specs.Logging.{all_logged, all_logged_by, flush_by}
+use Rattle.wdt_receiver_fsm.specs.Outcomes.{Rested, Left, Warned, Failed, GivenUp, Listened, Linked, Greeted, Listed, ReadOn, Sized, Begun, Taken, Concluded, Told, Waited, Ended, Acknowledged, Serves, is_linked, WasOver, WasStray, WasSettled, WasNoBlock, WasMute, WasTold, Lands, landed_by, Idles, ByDone, ByWait, ByWaking, Finishes, Mistakes, NoFrame, NoPlace, WrongSettings, OtherSize, WrongBlock, Fails, OfMemory, OfSender, OfPeer, OfShort, OfMake, OfWrite, OfLog, OfFinish, Listens, AtFirst, ByNoLink, ByLoss, ByGreeting, ByChunks, ByMarks, ByLanding, ByLogging, WasFinished, IsFinished, OfKnown, OfNew, Comes}
 use Rattle.wdt_receiver_fsm.specs.Plan.{EndsIn, Plan, calls, ends}
 use Rattle.wdt_receiver_fsm.specs.PlainReceiver.{PlainReceiver, begun_blocks, can_finish, failed, has_finish, is_batch_full, is_ended, lane_at, marks_at, noted, past_at, state_at, untold_at}
 use Rattle.wdt_receiver_fsm.specs.ReceiverHistory.{end_of}
-use Rattle.wdt_receiver_fsm.specs.Rows.{Row, Over, Starved, Stray, Aborted, BadFrame, Unexpected, Piece, Dropped, SettingsRead, Size, Block as BlockRead, Done, WaitWritten, Woken, at_settings, at_command, at_answer, is_mute, is_mute_at, is_reading, is_stray, place_of, piece_row, row_of}
-use Rattle.wdt_receiver_fsm.specs.Turn.{Put, Given, Bytes, Step, rests, leaves, tells_failure, gives_up, faults, disk_fails, drops_lane, is_used_up, knows, listen, listen_by, greets, greets_with, lists_by, sizes, sizes_with, reads_on, logs, logs_by, piece_by, piece_of, piece_plan, makes_by, block_with, block_plan, idle_by, idle_plan, idles_lane, waited_lane, finish_plan, finishes, finishes_with, tells_by, is_over, after_starving, ruled, turned, turn_row, row_at, turn_plan}
+use Rattle.wdt_receiver_fsm.specs.Rows.{Row, Over, Starved, Aborted, BadFrame, Unexpected, Piece, SettingsRead, Size, Block as BlockRead, Done, WaitWritten, Woken, at_settings, at_command, at_answer, is_mute, is_mute_at, is_reading, is_stray, place_of, piece_row, row_of}
+use Rattle.wdt_receiver_fsm.specs.Turn.{Put, Given, Bytes, Step, rests, leaves, tells_failure, gives_up, faults, disk_fails, drops_lane, is_used_up, knows, listen, listen_by, greets_with, lists_by, sizes_with, reads_on, logs_by, piece_by, piece_plan, makes_by, block_with, idle_by, idle_plan, idles_lane, waited_lane, finish_plan, finishes, finishes_with, tells_by, is_over, after_starving, ruled, turned, turn_row, row_at, turn_plan}
 
 -- ---- plans
 

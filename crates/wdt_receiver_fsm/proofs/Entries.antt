@@ -1,14 +1,11 @@
 -- A receiver in the midst of a step: entries that are noted, and what else the step does.
-use Rattle.std.proofs.Common.{◌≡◌, ◌≢◌, ◌⊎◌, inl, inr, ℕ, zero, suc, ◌+◌, ◌<◌, ◌≤◌, ◌==◌, ◌&&◌, ◌||◌, nat_le, nat_lt, not, if◌then◌else◌, List, [], ◌∷◌, ◌++◌, length, Bool, true, false, Option, Some, None, subst, sym, ap, ◌∙◌, refl, arith, append_assoc, append-nil, eq-eqb, eqb-true, IsTrue}
+use Rattle.std.proofs.Common.{◌≡◌, ◌≢◌, ◌⊎◌, inl, inr, ℕ, zero, suc, ◌+◌, ◌<◌, ◌≤◌, ◌&&◌, ◌||◌, List, [], ◌∷◌, ◌++◌, length, Bool, true, false, Option, Some, None, subst, sym, ap, ◌∙◌, refl, arith, eq-eqb}
 use Rattle.std.proofs.lemmas.Bool.{both_ways}
 use Rattle.std.proofs.lemmas.List.{length-set}
-use Rattle.wdt_units.specs.Lanes.{AllOf}
 use Rattle.wdt_units.specs.declared.blocks.Block.{Block}
 use Rattle.wdt_units.specs.declared.blocks.Header.{Header}
 use Rattle.wdt_units.specs.declared.numbers.Lane.{Lane}
 use Rattle.wdt_codec.specs.declared.frames.Settings.{Settings}
-use Rattle.wdt_logfmt.specs.Beginning.{KnownFile}
-use Rattle.wdt_logfmt.specs.Marks.{bytes_in, files_in}
 use Rattle.wdt_sender_fsm.specs.declared.answers.EndAnswer.{EndAnswer}
 use Rattle.wdt_sender_fsm.specs.Rules.{every, is_failure}
 use Rattle.wdt_receiver_fsm.specs.declared.events.RecvEvent.{RecvEvent}
@@ -16,16 +13,15 @@ use Rattle.wdt_receiver_fsm.specs.declared.events.RecvEvent.TheVariants as event
 use Rattle.wdt_receiver_fsm.specs.declared.states.RecvLane.{RecvLane}
 use Rattle.wdt_receiver_fsm.specs.declared.states.RecvState.{RecvState}
 use Rattle.wdt_receiver_fsm.specs.declared.states.RecvState.TheVariants as states
-use Rattle.wdt_receiver_fsm.specs.Frames.{settings_fault, session_by, block_by}
 use Rattle.wdt_receiver_fsm.specs.Legal.{Fits, IsAllowed, IsLegal, IsLegal-more, MaySpeak, MayFinish, Terms, legal_from, marks_by, needs_link}
-use Rattle.wdt_receiver_fsm.specs.Logging.{all_logged, all_logged_by}
+use Rattle.wdt_receiver_fsm.specs.Logging.{all_logged_by}
 use Rattle.wdt_receiver_fsm.specs.PlainReceiver.{PlainReceiver, failed, has_finish, lane_at, marks_at, noted, past_at, with_lane}
-use Rattle.wdt_receiver_fsm.specs.Ready.{is_closed, is_idle, is_ready, rests}
+use Rattle.wdt_receiver_fsm.specs.Ready.{is_ready, rests}
 use Rattle.wdt_receiver_fsm.specs.Receiver.{Fares, FaresAt, GoesOn, IsReceiver, IsSized, terms_of}
 use Rattle.wdt_receiver_fsm.specs.ReceiverHistory.{EndPast, RecvPast, end_after, end_from, end_of, end_of-append, first_of, has_fault_after, lane_of, past_after, past_of, past_of-append}
-use Rattle.wdt_receiver_fsm.specs.Turn.{knows, lands}
+use Rattle.wdt_receiver_fsm.specs.Turn.{knows}
 use Rattle.wdt_receiver_fsm.proofs.Judged.{Told, legal_put, legal_terms}
-use Rattle.wdt_receiver_fsm.proofs.Keeping.{Stays, end_behind, end_same, is_quiet, judged_fails, notes_quiet, other_past}
+use Rattle.wdt_receiver_fsm.proofs.Keeping.{Stays, end_behind, judged_fails}
 use Rattle.wdt_receiver_fsm.proofs.Touching.{set_other}
 
 -- ---- what is allowed

@@ -1,5 +1,5 @@
 -- A turn's plan, part by part, for the proofs of the crates that make its calls.
-use Rattle.std.proofs.Common.{◌≡◌, inl, inr, Bool, true, false, List, [], ◌∷◌, ◌++◌, Option, Some, None, ℕ, zero, suc, ◌-◌, length, ap, ◌∙◌, refl, subst, sym}
+use Rattle.std.proofs.Common.{◌≡◌, inl, inr, Bool, true, false, List, [], ◌∷◌, ◌++◌, Option, Some, None, ℕ, suc, ◌-◌, length, ap, ◌∙◌, refl, subst, sym}
 use Rattle.std.specs.Prelude.{option_map}
 use Rattle.std.proofs.lemmas.Option.{same_Some}
 use Rattle.wdt_units.specs.declared.blocks.Block.{Block}

@@ -1,5 +1,5 @@
 -- What a legal history is judged by, and how that changes while no fault is noted.
-use Rattle.std.proofs.Common.{◌≡◌, ◌≢◌, ◌⊎◌, inl, inr, ℕ, zero, suc, ◌<◌, List, [], ◌∷◌, ◌++◌, length, map, Bool, true, false, Option, Some, None, slice_get, slice_set, subst, sym, ap, ◌∙◌, refl, arith, append_assoc}
+use Rattle.std.proofs.Common.{◌≡◌, ℕ, zero, suc, List, [], ◌∷◌, ◌++◌, length, map, Bool, true, false, Option, slice_get, slice_set, subst, sym, ap, ◌∙◌, refl, append_assoc}
 use Rattle.std.proofs.lemmas.Bool.{both_ways}
 use Rattle.std.proofs.lemmas.List.{length-set}
 use Rattle.wdt_units.specs.declared.numbers.Lane.{Lane}
@@ -7,7 +7,7 @@ use Rattle.wdt_logfmt.specs.Beginning.{KnownFile}
 use Rattle.wdt_receiver_fsm.specs.declared.events.RecvEvent.{RecvEvent}
 use Rattle.wdt_receiver_fsm.specs.declared.events.RecvEvent.TheVariants as events
 use Rattle.wdt_receiver_fsm.specs.declared.states.RecvLane.{RecvLane}
-use Rattle.wdt_receiver_fsm.specs.Legal.{IsAllowed, IsLegal, Terms, conn_at, legal_from, number_or_none}
+use Rattle.wdt_receiver_fsm.specs.Legal.{IsAllowed, IsLegal, Terms, legal_from, number_or_none}
 use Rattle.wdt_receiver_fsm.specs.PlainReceiver.{PlainReceiver, lane_at, lane_or_ended, with_lane}
 use Rattle.wdt_receiver_fsm.specs.Receiver.{conn_of, terms_of}
 use Rattle.wdt_receiver_fsm.specs.ReceiverHistory.{EndPast, end_after, end_from, end_of, end_of-append, has_fault_after}

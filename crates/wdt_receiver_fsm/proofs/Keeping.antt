@@ -1,22 +1,19 @@
 -- What a receiver keeps while a lane's step notes entries and puts its lane.
-use Rattle.std.proofs.Common.{◌≡◌, ◌≢◌, ◌⊎◌, inl, inr, ℕ, zero, suc, ◌+◌, ◌<◌, ◌≤◌, ◌==◌, ◌&&◌, ◌||◌, not, List, [], ◌∷◌, ◌++◌, length, Bool, true, false, Option, Some, None, subst, sym, ap, ◌∙◌, refl, arith, append_assoc, append-nil, eq-eqb}
+use Rattle.std.proofs.Common.{◌≡◌, ◌≢◌, ◌⊎◌, inl, inr, ℕ, ◌<◌, ◌≤◌, List, [], ◌∷◌, ◌++◌, length, Bool, true, false, subst, sym, ap, ◌∙◌, refl, arith}
 use Rattle.std.proofs.lemmas.Bool.{ne_eqb}
 use Rattle.std.proofs.lemmas.List.{length-set}
 use Rattle.wdt_units.specs.Lanes.{AllOf}
 use Rattle.wdt_units.specs.declared.numbers.Lane.{Lane}
-use Rattle.wdt_logfmt.specs.Beginning.{KnownFile}
 use Rattle.wdt_sender_fsm.specs.declared.answers.EndAnswer.{EndAnswer}
 use Rattle.wdt_sender_fsm.specs.declared.answers.EndAnswer.TheVariants as answers
 use Rattle.wdt_sender_fsm.specs.Rules.{is_failure, judged, standing}
 use Rattle.wdt_receiver_fsm.specs.declared.events.RecvEvent.{RecvEvent}
 use Rattle.wdt_receiver_fsm.specs.declared.events.RecvEvent.TheVariants as events
 use Rattle.wdt_receiver_fsm.specs.declared.states.RecvLane.{RecvLane}
-use Rattle.wdt_receiver_fsm.specs.declared.states.RecvState.{RecvState}
-use Rattle.wdt_receiver_fsm.specs.declared.states.RecvState.TheVariants as states
-use Rattle.wdt_receiver_fsm.specs.Legal.{Fits, IsAllowed, IsLegal, IsLegal-more, Terms, legal_from}
+use Rattle.wdt_receiver_fsm.specs.Legal.{IsAllowed, IsLegal, IsLegal-more}
 use Rattle.wdt_receiver_fsm.specs.PlainReceiver.{PlainReceiver, failed, has_finish, lane_at, noted, past_at, with_lane}
 use Rattle.wdt_receiver_fsm.specs.Receiver.{Fares, FaresAt, IsReceiver, terms_of}
-use Rattle.wdt_receiver_fsm.specs.ReceiverHistory.{EndPast, RecvPast, end_after, end_from, end_of, end_of-append, lane_of, past_after, past_from, past_of, past_of-append}
+use Rattle.wdt_receiver_fsm.specs.ReceiverHistory.{EndPast, RecvPast, end_after, end_of, end_of-append, lane_of, past_after, past_of, past_of-append}
 use Rattle.wdt_receiver_fsm.proofs.HeldActs.{lane_set}
 use Rattle.wdt_receiver_fsm.proofs.Judged.{Told, legal_put}
 use Rattle.wdt_receiver_fsm.proofs.Touching.{set_other}

@@ -1,11 +1,10 @@
 -- Sets of lanes and rising lists of them.
 use Rattle.std.proofs.Common.{◌≡◌, ◌⊎◌, inl, inr, ℕ, zero, suc, ◌<◌, ◌≤◌, ◌==◌, ◌||◌, ◌&&◌, nat_lt, List, [], ◌∷◌, ◌++◌, Bool, true, false, if◌then◌else◌, filter, subst, sym, ap, ◌∙◌, refl, arith, append-nil, eqb-true}
-use Rattle.std.specs.List.{list_any}
 use Rattle.std.proofs.lemmas.Bool.Decides.{nat_tests}
 use Rattle.std.proofs.lemmas.List.Elements.{filter-append}
 use Rattle.std.proofs.lemmas.List.Folds.{list_any-append}
 use Rattle.std.proofs.lemmas.Map.Views.{any-filter_same}
-use Rattle.wdt_units.specs.LaneSets.{has_lane, lanes_with, only_lane}
+use Rattle.wdt_units.specs.LaneSets.{has_lane, only_lane}
 use Rattle.wdt_units.proofs.LaneSetLaws.{in_none, in_only, in_with}
 use Rattle.wdt_receiver_fsm.specs.Sets.{has, lanes_of, numbers, set_of}
 

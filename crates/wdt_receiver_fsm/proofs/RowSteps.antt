@@ -1,14 +1,12 @@
 -- A step of a lane by its row.
-use Rattle.std.proofs.Common.{◌≡◌, ◌⊎◌, inl, inr, ℕ, ◌-◌, List, [], ◌∷◌, ◌++◌, length, Bool, true, false, Option, Some, None, subst, sym, ap, ◌∙◌, refl}
+use Rattle.std.proofs.Common.{◌≡◌, ◌⊎◌, inl, inr, ℕ, List, [], ◌∷◌, Bool, true, false, Option, subst, sym, ap, ◌∙◌, refl}
 use Rattle.wdt_units.specs.declared.blocks.Block.{Block}
 use Rattle.wdt_units.specs.declared.numbers.Lane.{Lane}
-use Rattle.wdt_codec.specs.declared.frames.Frame.{Frame}
 use Rattle.wdt_codec.specs.declared.frames.Frame.TheVariants as frames
 use Rattle.wdt_logfmt.specs.Marks.{bytes_in, files_in}
 use Rattle.wdt_sender_fsm.specs.declared.answers.EndAnswer.{EndAnswer}
 use Rattle.wdt_sender_fsm.specs.declared.answers.EndAnswer.TheVariants as answers
 use Rattle.wdt_sender_fsm.specs.declared.peers.PeerKind.{PeerKind}
-use Rattle.wdt_sender_fsm.specs.declared.peers.PeerKind.TheVariants as peers
 use Rattle.wdt_sender_fsm.specs.Rules.{is_failure, starved, by_rules, by_voice}
 use Rattle.wdt_receiver_fsm.specs.declared.events.RecvEvent.{RecvEvent}
 use Rattle.wdt_receiver_fsm.specs.declared.events.RecvEvent.TheVariants as events
@@ -17,14 +15,14 @@ use Rattle.wdt_receiver_fsm.specs.declared.inputs.RecvIn.TheVariants as inputs
 use Rattle.wdt_receiver_fsm.specs.declared.states.RecvState.{RecvState}
 use Rattle.wdt_receiver_fsm.specs.declared.states.RecvState.TheVariants as states
 use Rattle.wdt_receiver_fsm.specs.Causes.{IsShort, Misspeaks}
-use Rattle.wdt_receiver_fsm.specs.Frames.{block_fault, settings_fault, short_fault, size_fault}
+use Rattle.wdt_receiver_fsm.specs.Frames.{short_fault}
 use Rattle.wdt_receiver_fsm.specs.Logging.{all_logged, all_logged_by, flush_by, flush_plan}
 use Rattle.wdt_receiver_fsm.specs.Outcomes.{ByDone, ByWait, ByWaking, Idles, Mistakes, NoFrame, NoPlace, OtherSize, Serves, WrongBlock, WrongSettings}
-use Rattle.wdt_receiver_fsm.specs.Plan.{EndsIn, Plan, calls, ends}
-use Rattle.wdt_receiver_fsm.specs.PlainReceiver.{PlainReceiver, begun_blocks, can_finish, failed, is_ended, lane_at, marks_at, noted, past_at, state_at}
+use Rattle.wdt_receiver_fsm.specs.Plan.{EndsIn, Plan, ends}
+use Rattle.wdt_receiver_fsm.specs.PlainReceiver.{PlainReceiver, can_finish, failed, lane_at, marks_at, noted}
 use Rattle.wdt_receiver_fsm.specs.ReceiverHistory.{end_of}
-use Rattle.wdt_receiver_fsm.specs.Rows.{BadFrame, Block as BlockRead, Done, Over, Row, SettingsRead, Size, Starved, Unexpected, WaitWritten, Woken, is_mute, is_mute_at, is_reading, place_of, piece_row, row_of}
-use Rattle.wdt_receiver_fsm.specs.Turn.{Bytes, Given, Put, Step, after_starving, block_with, disk_fails, faults, finishes, finishes_with, gives_up, greets_with, idle_by, idle_plan, idles_lane, is_over, is_starved, leaves, rests, row_at, ruled, sizes_with, tells_failure, turn_plan, turn_row, turned, waited_lane}
+use Rattle.wdt_receiver_fsm.specs.Rows.{BadFrame, Block as BlockRead, Done, Over, Row, SettingsRead, Size, Starved, Unexpected, WaitWritten, Woken, is_mute, is_reading, place_of, row_of}
+use Rattle.wdt_receiver_fsm.specs.Turn.{Given, Put, Step, after_starving, block_with, disk_fails, finishes, finishes_with, gives_up, greets_with, idle_by, idle_plan, idles_lane, is_over, is_starved, leaves, rests, row_at, ruled, sizes_with, tells_failure, turn_plan, turn_row, turned, waited_lane}
 
 fed : (r : PlainReceiver) (row : Row) → is_starved row ≡ false → after_starving r row ≡ r
 fed r (Starved mute) e = cc

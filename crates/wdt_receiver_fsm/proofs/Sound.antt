@@ -1,5 +1,5 @@
 -- What a legal history says of each lane.
-use Rattle.std.proofs.Common.{◌≡◌, ◌≢◌, ◌⊎◌, inl, inr, ℕ, zero, suc, ◌+◌, ◌<◌, ◌≤◌, List, [], ◌∷◌, ◌++◌, length, Bool, true, false, Option, Some, None, subst, sym, ap, ◌∙◌, refl, arith, append_assoc, append-nil, length-append}
+use Rattle.std.proofs.Common.{◌≡◌, ◌≢◌, ◌⊎◌, inl, inr, ℕ, ◌<◌, ◌≤◌, List, [], ◌∷◌, ◌++◌, length, Bool, true, false, Option, Some, None, subst, sym, refl, arith, append_assoc, append-nil, length-append}
 use Rattle.std.proofs.lemmas.Bool.{both_ways}
 use Rattle.wdt_units.specs.Lanes.{AllOf}
 use Rattle.wdt_units.specs.declared.blocks.Block.{Block}
@@ -11,7 +11,7 @@ use Rattle.wdt_receiver_fsm.specs.declared.states.RecvState.{RecvState}
 use Rattle.wdt_receiver_fsm.specs.declared.states.RecvState.TheVariants as states
 use Rattle.wdt_receiver_fsm.specs.Frames.{most_landed}
 use Rattle.wdt_receiver_fsm.specs.Legal.{IsAllowed, IsLegal, IsOff, IsSound, MaySpeak, Terms, legal_from}
-use Rattle.wdt_receiver_fsm.specs.PlainReceiver.{PlainReceiver, has_finish, lane_at, past_at, state_at}
+use Rattle.wdt_receiver_fsm.specs.PlainReceiver.{PlainReceiver, lane_at, past_at, state_at}
 use Rattle.wdt_receiver_fsm.specs.Receiver.{Fares, IsReceiver}
 use Rattle.wdt_receiver_fsm.specs.ReceiverHistory.{EndPast, RecvPast, end_of, lane_of, past_of, past_of-none, with_begun}
 use Rattle.wdt_receiver_fsm.proofs.Entries.{abort_past, acked, began, closed, dropped, finish_past, idled, landed, met_past, peer_past, quitted, sized_past, told, took, tried}

@@ -1,5 +1,5 @@
 -- What a lane does fits its phase, and what may be said to it has a row.
-use Rattle.std.proofs.Common.{◌≡◌, ◌⊎◌, inl, inr, ℕ, ◌-◌, ◌==◌, min, List, length, Bool, true, false, if◌then◌else◌, Option, Some, None, subst, sym, ap, ◌∙◌, refl, eqb-true}
+use Rattle.std.proofs.Common.{◌≡◌, inl, inr, ℕ, ◌-◌, ◌==◌, min, Bool, true, false, if◌then◌else◌, Some, None, sym, ap, ◌∙◌, refl, eqb-true}
 use Rattle.wdt_units.specs.declared.numbers.Lane.{Lane}
 use Rattle.wdt_codec.specs.declared.frames.Frame.{Frame}
 use Rattle.wdt_codec.specs.declared.frames.Frame.TheVariants as frames
@@ -9,8 +9,8 @@ use Rattle.wdt_receiver_fsm.specs.declared.states.RecvLane.{RecvLane}
 use Rattle.wdt_receiver_fsm.specs.declared.states.RecvState.{RecvState}
 use Rattle.wdt_receiver_fsm.specs.declared.states.RecvState.TheVariants as states
 use Rattle.wdt_receiver_fsm.specs.Acts.{act_in, act_of}
-use Rattle.wdt_receiver_fsm.specs.Phases.{AsksPiece, FitsLane, Leads, asked_by, is_named, phase_by, phase_heard, phase_taking, sized_by}
-use Rattle.wdt_receiver_fsm.specs.PlainReceiver.{PlainReceiver, have_now, lane_at, mark_of, marks_told, past_at, state_at}
+use Rattle.wdt_receiver_fsm.specs.Phases.{AsksPiece, FitsLane, Leads, asked_by, is_named, phase_by, phase_heard, sized_by}
+use Rattle.wdt_receiver_fsm.specs.PlainReceiver.{PlainReceiver, lane_at, past_at, state_at}
 use Rattle.wdt_receiver_fsm.specs.ReceiverHistory.{RecvPast}
 use Rattle.wdt_receiver_fsm.specs.Rows.{row_of}
 

@@ -1,15 +1,13 @@
 -- A lane's phase, with what it hands in, is its phase behind the step.
-use Rattle.std.proofs.Common.{◌≡◌, ◌⊎◌, inl, inr, ℕ, zero, suc, ◌-◌, ◌==◌, ◌<◌, min, List, [], ◌∷◌, ◌++◌, length, Bool, true, false, if◌then◌else◌, Option, Some, None, is_some, subst, sym, ap, ◌∙◌, refl, arith}
+use Rattle.std.proofs.Common.{◌≡◌, inl, inr, ℕ, zero, suc, ◌-◌, ◌==◌, ◌<◌, min, List, [], ◌∷◌, length, Bool, true, false, if◌then◌else◌, Option, Some, None, is_some, subst, sym, ap, ◌∙◌, refl, arith}
 use Rattle.std.proofs.lemmas.Bool.{both_ways, ne_eqb}
 use Rattle.wdt_units.specs.declared.blocks.Block.{Block}
 use Rattle.wdt_units.specs.declared.numbers.Lane.{Lane}
 use Rattle.wdt_codec.specs.declared.frames.Frame.{Frame}
 use Rattle.wdt_codec.specs.declared.frames.Frame.TheVariants as frames
 use Rattle.wdt_codec.specs.declared.frames.Settings.{Settings}
-use Rattle.wdt_sender_fsm.specs.declared.answers.EndAnswer.{EndAnswer}
 use Rattle.wdt_sender_fsm.specs.Phases.{Asked, Bye, Framed, Listing, Met, Mid, Over, Phase, Piece, Sending, Told as ToldAll, down, piece_from, piece_most, told, with_left}
 use Rattle.wdt_sender_fsm.specs.Rules.{is_failure}
-use Rattle.wdt_receiver_fsm.specs.declared.events.RecvEvent.{RecvEvent}
 use Rattle.wdt_receiver_fsm.specs.declared.events.RecvEvent.TheVariants as events
 use Rattle.wdt_receiver_fsm.specs.declared.inputs.RecvIn.{RecvIn}
 use Rattle.wdt_receiver_fsm.specs.declared.inputs.RecvIn.TheVariants as inputs
@@ -18,14 +16,14 @@ use Rattle.wdt_receiver_fsm.specs.declared.states.RecvState.{RecvState}
 use Rattle.wdt_receiver_fsm.specs.declared.states.RecvState.TheVariants as states
 use Rattle.wdt_receiver_fsm.specs.Logging.{all_logged, all_logged_by}
 use Rattle.wdt_receiver_fsm.specs.Outcomes.{Outcome, Rested, Left, Warned, Failed, GivenUp, Listened, Linked, Greeted, Listed, ReadOn, Sized, Begun, Taken, Concluded, Told, Waited, Ended, Acknowledged, came_to, ComesOf, Serves, Rests, WasOver, WasStray, WasSettled, WasNoBlock, WasMute, WasTold, Leaves, Lands, landed_by, Idles, ByDone, ByWait, ByWaking, Listens, AtFirst, ByNoLink, ByLoss, ReadsOn, ByGreeting, ByChunks, ByMarks, ByLanding, ByLogging, Concludes, WasFinished, IsFinished, Begins, OfKnown, OfNew, Takes}
-use Rattle.wdt_receiver_fsm.specs.Phases.{StandsIn, asked_by, phase_by, phase_heard, phase_holding, phase_linked, phase_of, phase_taking, phase_with, phase_written, sized_by as sized_phase}
+use Rattle.wdt_receiver_fsm.specs.Phases.{StandsIn, asked_by, phase_by, phase_heard, phase_holding, phase_linked, phase_of, phase_with, phase_written, sized_by as sized_phase}
 use Rattle.wdt_receiver_fsm.specs.Plan.{EndsIn}
 use Rattle.wdt_receiver_fsm.specs.PlainReceiver.{PlainReceiver, failed, has_finish, lane_at, noted, past_at, state_at, with_lane}
 use Rattle.wdt_receiver_fsm.specs.Receiver.{HasLeft, IsReceiver}
-use Rattle.wdt_receiver_fsm.specs.ReceiverHistory.{RecvPast, end_of, past_of}
+use Rattle.wdt_receiver_fsm.specs.ReceiverHistory.{RecvPast, end_of}
 use Rattle.wdt_receiver_fsm.specs.Rows.{is_stray, piece_row, row_of}
 use Rattle.wdt_receiver_fsm.specs.Sets.{set_of}
-use Rattle.wdt_receiver_fsm.specs.Turn.{Bytes, Given, Put, Step, begins_by, given_up, greets_by, lands, meets, met_by, next_take, row_at, sized_by, turn_plan, waits_by}
+use Rattle.wdt_receiver_fsm.specs.Turn.{Bytes, Given, Put, Step, begins_by, greets_by, lands, meets, met_by, next_take, row_at, sized_by, turn_plan, waits_by}
 use Rattle.wdt_receiver_fsm.proofs.Comes.{end_comes}
 use Rattle.wdt_receiver_fsm.proofs.Entries.{acked, finish_past, met_past}
 use Rattle.wdt_receiver_fsm.proofs.Failing.{voiced_answer}

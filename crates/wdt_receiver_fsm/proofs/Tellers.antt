@@ -1,6 +1,6 @@
 -- A lane tells of a closed one exactly where it is among those that told of it and weren't idle since.
-use Rattle.std.proofs.Common.{◌≡◌, ◌≢◌, ◌⊎◌, inl, inr, ℕ, ◌==◌, ◌||◌, not, List, [], ◌∷◌, ◌++◌, Bool, true, false, if◌then◌else◌, filter, subst, sym, ap, ◌∙◌, refl, append_assoc, append-nil, eq-eqb, eqb-true}
-use Rattle.std.proofs.lemmas.Bool.{both_ways, ne_eqb}
+use Rattle.std.proofs.Common.{◌≡◌, ◌≢◌, ◌⊎◌, inl, inr, ℕ, ◌==◌, ◌||◌, not, List, [], ◌∷◌, ◌++◌, Bool, true, false, if◌then◌else◌, subst, sym, ap, ◌∙◌, refl, append_assoc, append-nil, eq-eqb, eqb-true}
+use Rattle.std.proofs.lemmas.Bool.{ne_eqb}
 use Rattle.wdt_units.specs.Lanes.{AllOf}
 use Rattle.wdt_units.specs.declared.numbers.Lane.{Lane}
 use Rattle.wdt_units.specs.declared.numbers.LaneSet.{LaneSet}

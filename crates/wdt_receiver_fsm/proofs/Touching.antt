@@ -1,27 +1,26 @@
 -- A step leaves what isn't its lane's.
-use Rattle.std.proofs.Common.{◌≡◌, ◌≢◌, ◌⊎◌, inl, inr, ℕ, zero, suc, ◌+◌, ◌<◌, List, [], ◌∷◌, ◌++◌, length, Bool, true, false, Option, Some, None, is_some, slice_get, slice_set, subst, sym, ap, ◌∙◌, refl, arith, append_assoc, append-nil}
+use Rattle.std.proofs.Common.{◌≡◌, ◌≢◌, ℕ, zero, suc, List, [], ◌∷◌, ◌++◌, Bool, true, false, Option, Some, None, is_some, slice_get, slice_set, subst, sym, ap, ◌∙◌, refl, append_assoc, append-nil}
 use Rattle.std.proofs.lemmas.List.{length-set}
 use Rattle.wdt_units.specs.Lanes.{AllOf}
 use Rattle.wdt_units.specs.declared.blocks.Block.{Block}
 use Rattle.wdt_units.specs.declared.blocks.Header.{Header}
 use Rattle.wdt_units.specs.declared.numbers.Lane.{Lane}
 use Rattle.wdt_codec.specs.declared.frames.Settings.{Settings}
-use Rattle.wdt_logfmt.specs.Beginning.{KnownFile, known_at, with_known}
+use Rattle.wdt_logfmt.specs.Beginning.{KnownFile, with_known}
 use Rattle.wdt_sender_fsm.specs.declared.answers.EndAnswer.{EndAnswer}
 use Rattle.wdt_sender_fsm.specs.Rules.{by_voice}
 use Rattle.wdt_receiver_fsm.specs.declared.events.RecvEvent.{RecvEvent}
 use Rattle.wdt_receiver_fsm.specs.declared.events.RecvEvent.TheVariants as events
 use Rattle.wdt_receiver_fsm.specs.declared.states.RecvLane.{RecvLane}
-use Rattle.wdt_receiver_fsm.specs.declared.states.RecvState.{RecvState}
 use Rattle.wdt_receiver_fsm.specs.declared.states.RecvState.TheVariants as states
-use Rattle.wdt_receiver_fsm.specs.Logging.{all_logged, all_logged_by, flushed}
+use Rattle.wdt_receiver_fsm.specs.Logging.{all_logged, all_logged_by}
 use Rattle.wdt_receiver_fsm.specs.Outcomes.{Outcome, Rested, Left, Warned, Failed, GivenUp, Listened, Linked, Greeted, Listed, ReadOn, Sized, Begun, Taken, Concluded, Told, Waited, Ended, Acknowledged, came_to, ComesOf, landed_by, Idles, ByDone, ByWait, ByWaking, Fails, OfMemory, OfSender, OfPeer, OfShort, OfMake, OfWrite, OfLog, OfFinish, Listens, AtFirst, ByNoLink, ByLoss, ReadsOn, ByGreeting, ByChunks, ByMarks, ByLanding, ByLogging, Concludes, WasFinished, IsFinished, Begins, OfKnown, OfNew}
 use Rattle.wdt_receiver_fsm.specs.Plan.{EndsIn}
-use Rattle.wdt_receiver_fsm.specs.PlainReceiver.{PlainReceiver, failed, goes, has_finish, lane_at, lane_or_ended, noted, with_lane}
+use Rattle.wdt_receiver_fsm.specs.PlainReceiver.{PlainReceiver, failed, has_finish, lane_at, lane_or_ended, noted, with_lane}
 use Rattle.wdt_receiver_fsm.specs.ReceiverHistory.{end_of, lane_of}
 use Rattle.wdt_receiver_fsm.specs.Sets.{set_of}
-use Rattle.wdt_receiver_fsm.specs.Touches.{Adds, Keeps, Touches}
-use Rattle.wdt_receiver_fsm.specs.Turn.{Put, Step, begins, begins_by, file_of_header, given_up, greets_by, knows, lands, leaves, meets, met_by, next_take, sized_by, tells_by, tells_failure, turn_plan, waits_by}
+use Rattle.wdt_receiver_fsm.specs.Touches.{Keeps, Touches}
+use Rattle.wdt_receiver_fsm.specs.Turn.{Put, Step, begins_by, file_of_header, given_up, greets_by, knows, lands, leaves, meets, met_by, next_take, sized_by, tells_failure, turn_plan, waits_by}
 use Rattle.wdt_receiver_fsm.proofs.Comes.{end_comes}
 
 -- ---- entries

@@ -6,7 +6,7 @@ use Rattle.wdt_logfmt.specs.Adding.{can_cover}
 use Rattle.wdt_logfmt.specs.Marks.{marks_of}
 use Rattle.wdt_sender_fsm.specs.declared.peers.PeerKind.TheVariants.{Overlap, SizeDiffers}
 use Rattle.wdt_receiver_fsm.specs.declared.inputs.RecvIn.TheVariants as inputs
-use Rattle.wdt_receiver_fsm.specs.PlainReceiver.{have_now, mark_of}
+use Rattle.wdt_receiver_fsm.specs.PlainReceiver.{mark_of}
 use Rattle.wdt_receiver_fsm.specs.ReceiverHistory.{confirm_of, end_of, landed_of, past_of}
 use Rattle.wdt_receiver_fsm.specs.Turn.{recv_plan, take_plan, turn_plan}
 use Rattle.wdt_receiver_fsm.specs.Worked.{lane, header, one_lane, one_begun, named_landed, two_lanes, two_waiting, half_closed, makes_the_file, writes_the_bytes, finishes, two_faulted, tells, waits, parks}

@@ -1,20 +1,15 @@
 -- What a lane is given to write lies in the grammar's ranges.
-use Rattle.std.proofs.Common.{◌≡◌, ◌≢◌, ◌⊎◌, inl, inr, ℕ, zero, suc, ◌+◌, ◌<◌, ◌≤◌, ◌&&◌, not, List, [], ◌∷◌, ◌++◌, length, filter, map, Bool, true, false, if◌then◌else◌, Option, Some, None, subst, sym, ap, ◌∙◌, refl, arith, append_assoc, append-nil, length-append}
+use Rattle.std.proofs.Common.{◌≡◌, ◌≢◌, ◌⊎◌, inl, inr, ℕ, zero, suc, ◌+◌, ◌<◌, ◌≤◌, ◌&&◌, not, List, [], ◌∷◌, ◌++◌, length, filter, map, Bool, true, false, if◌then◌else◌, subst, sym, ap, ◌∙◌, refl, arith, append_assoc, append-nil, length-append}
 use Rattle.std.proofs.lemmas.Bool.{both_ways}
 use Rattle.std.proofs.lemmas.List.Elements.{filter-append}
 use Rattle.wdt_units.specs.Lanes.{AllOf}
-use Rattle.wdt_units.specs.declared.blocks.Block.{Block}
 use Rattle.wdt_units.specs.declared.numbers.Lane.{Lane}
-use Rattle.wdt_codec.specs.Frames.{FitMarks, Fits, FitsMark, FitsMarks}
-use Rattle.wdt_codec.specs.declared.frames.Frame.{Frame}
-use Rattle.wdt_codec.specs.declared.frames.Frame.TheVariants as frames
-use Rattle.wdt_codec.specs.declared.frames.Mark.{Mark}
+use Rattle.wdt_codec.specs.Frames.{FitMarks, FitsMark, FitsMarks}
 use Rattle.wdt_sender_fsm.specs.declared.answers.EndAnswer.{EndAnswer}
 use Rattle.wdt_sender_fsm.specs.declared.answers.EndAnswer.TheVariants as answers
 use Rattle.wdt_sender_fsm.specs.Rules.{code_of, is_failure}
 use Rattle.wdt_receiver_fsm.specs.declared.events.RecvEvent.{RecvEvent}
 use Rattle.wdt_receiver_fsm.specs.declared.events.RecvEvent.TheVariants as events
-use Rattle.wdt_receiver_fsm.specs.declared.inputs.RecvIn.TheVariants as inputs
 use Rattle.wdt_receiver_fsm.specs.declared.states.RecvLane.{RecvLane}
 use Rattle.wdt_receiver_fsm.specs.declared.states.RecvState.{RecvState}
 use Rattle.wdt_receiver_fsm.specs.declared.states.RecvState.TheVariants as states
@@ -23,11 +18,11 @@ use Rattle.wdt_receiver_fsm.specs.Causes.{IsCause}
 use Rattle.wdt_receiver_fsm.specs.Legal.{IsAllowed, IsLegal, IsSound, Terms, legal_from}
 use Rattle.wdt_receiver_fsm.specs.Plan.{EndsIn}
 use Rattle.wdt_receiver_fsm.specs.PlainReceiver.{PlainReceiver, lane_at, mark_of, past_at, state_at}
-use Rattle.wdt_receiver_fsm.specs.Ready.{is_closed, is_confirmed, is_untold, untold}
+use Rattle.wdt_receiver_fsm.specs.Ready.{is_confirmed, is_untold, untold}
 use Rattle.wdt_receiver_fsm.specs.Receiver.{Fares, IsReceiver, terms_of}
 use Rattle.wdt_receiver_fsm.specs.ReceiverHistory.{RecvPast, end_of, lane_of, past_of, past_of-none}
 use Rattle.wdt_receiver_fsm.specs.Sets.{has, lanes_of, numbers, set_of}
-use Rattle.wdt_receiver_fsm.specs.Turn.{Bytes, Given, Put, Step, turn_plan}
+use Rattle.wdt_receiver_fsm.specs.Turn.{Put, Step, turn_plan}
 use Rattle.wdt_receiver_fsm.specs.Writes.{CanTell, FitsAct, FitsPut}
 use Rattle.wdt_receiver_fsm.proofs.Entries.{abort_past, acked, began, closed, dropped, finish_past, idled, landed, met_past, peer_past, quitted, sized_past, told, took, tried}
 use Rattle.wdt_receiver_fsm.proofs.Failing.{turn_follows}

@@ -1,10 +1,7 @@
 -- Why an end fails in a step.
-use Rattle.std.specs.Prelude.{◌≡◌, ◌⊎◌, ◌↔◌, ℕ, Bool, true, false, List, [], ◌∷◌, ◌++◌, Some, None}
-use Rattle.wdt_units.specs.declared.blocks.Block.{Block}
-use Rattle.wdt_units.specs.declared.blocks.Header.{Header}
+use Rattle.std.specs.Prelude.{◌≡◌, ◌⊎◌, ℕ, true, false, [], ◌∷◌, ◌++◌, Some}
 use Rattle.wdt_units.specs.declared.numbers.Lane.{Lane}
 use Rattle.wdt_codec.specs.declared.frames.Frame.TheVariants as frames
-use Rattle.wdt_logfmt.specs.Beginning.{is_new}
 use Rattle.wdt_logfmt.specs.Marks.{bytes_in, files_in}
 use Rattle.wdt_sender_fsm.specs.declared.answers.EndAnswer.{EndAnswer}
 use Rattle.wdt_sender_fsm.specs.declared.answers.EndAnswer.TheVariants as answers
@@ -13,13 +10,13 @@ use Rattle.wdt_sender_fsm.specs.Rules.{is_failure}
 use Rattle.wdt_receiver_fsm.specs.declared.events.RecvEvent.TheVariants as events
 use Rattle.wdt_receiver_fsm.specs.declared.inputs.RecvIn.TheVariants as inputs
 use Rattle.wdt_receiver_fsm.specs.declared.states.RecvState.{RecvState}
-use Rattle.wdt_receiver_fsm.specs.Frames.{block_fault, short_fault}
+use Rattle.wdt_receiver_fsm.specs.Frames.{short_fault}
 use Rattle.wdt_receiver_fsm.specs.Logging.{all_logged}
 use Rattle.wdt_receiver_fsm.specs.Outcomes.{Fails, Finishes, Mistakes, Serves}
-use Rattle.wdt_receiver_fsm.specs.PlainReceiver.{PlainReceiver, marks_at, state_at}
+use Rattle.wdt_receiver_fsm.specs.PlainReceiver.{PlainReceiver, marks_at}
 use Rattle.wdt_receiver_fsm.specs.ReceiverHistory.{end_of}
 use Rattle.wdt_receiver_fsm.specs.Rows.{is_reading}
-use Rattle.wdt_receiver_fsm.specs.Turn.{Put, Given, Step}
+use Rattle.wdt_receiver_fsm.specs.Turn.{Put, Given}
 
 -- the sender said on the lane what it may not say, by the values that were read
 pub record Misspeaks (r : PlainReceiver) (l : Lane) (put : Put) (kind : PeerKind) : Type 0 where

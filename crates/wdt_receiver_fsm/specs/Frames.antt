@@ -1,18 +1,13 @@
 -- What a sender may not say of itself, of what it sends in all, and of a block.
-use Rattle.std.specs.Prelude.{ℕ, ◌+◌, ◌==◌, ◌&&◌, not, nat_le, Bool, true, false, List, length, Option, Some, None, option_map, if◌then◌else◌}
+use Rattle.std.specs.Prelude.{ℕ, ◌+◌, ◌==◌, ◌&&◌, not, nat_le, List, Option, Some, None, option_map, if◌then◌else◌}
 use Rattle.wdt_units.specs.declared.limits.TheConstants.{MAX_BLOCKS}
 use Rattle.wdt_units.specs.declared.blocks.Block.{Block}
 use Rattle.wdt_units.specs.declared.blocks.Header.{Header}
-use Rattle.wdt_codec.specs.declared.frames.Frame.{Frame}
 use Rattle.wdt_codec.specs.declared.frames.Settings.{Settings}
 use Rattle.wdt_logfmt.specs.Beginning.{BeginFault, KnownFile, OverLimit, Overlap, SizeDiffers, begin_fault}
 use Rattle.wdt_logfmt.specs.Marks.{Marked}
 use Rattle.wdt_sender_fsm.specs.declared.peers.PeerKind.{PeerKind}
 use Rattle.wdt_sender_fsm.specs.declared.peers.PeerKind.TheVariants as peers
-use Rattle.wdt_sender_fsm.specs.Rows.{command_of}
-use Rattle.wdt_receiver_fsm.specs.declared.states.RecvState.{RecvState}
-use Rattle.wdt_receiver_fsm.specs.ReceiverHistory.{first_of}
-use Rattle.wdt_receiver_fsm.specs.Rows.{place_of}
 
 -- ---- settings
 

@@ -1,5 +1,5 @@
 -- What a step of a lane comes to, in one word: how the lane stands behind it, which act it gets, and why.
-use Rattle.std.specs.Prelude.{◌≡◌, ◌⊎◌, ℕ, ◌-◌, not, Bool, true, false, List, [], ◌∷◌, length, is_some, Option, Some, None}
+use Rattle.std.specs.Prelude.{◌≡◌, ℕ, ◌-◌, Bool, true, false, List, [], ◌∷◌, length, is_some, Some, None}
 use Rattle.wdt_units.specs.declared.blocks.Block.{Block}
 use Rattle.wdt_units.specs.declared.blocks.Header.{Header}
 use Rattle.wdt_units.specs.declared.numbers.Lane.{Lane}

@@ -1,7 +1,7 @@
 -- A receiver's end as plain data, without its disk. What has landed, what was read first and who was
 -- told of what isn't kept beside the history, since the history says it.
-use Rattle.std.specs.Prelude.{ℕ, ◌==◌, ◌&&◌, ◌||◌, nat_le, not, Bool, true, false, List, [], ◌∷◌, ◌++◌, length, filter, map, slice_get, slice_set, sum_by, Option, Some, None, if◌then◌else◌}
-use Rattle.std.specs.List.{flat_map, list_any}
+use Rattle.std.specs.Prelude.{ℕ, ◌&&◌, ◌||◌, nat_le, Bool, true, false, List, [], ◌++◌, length, map, slice_get, slice_set, sum_by, Option, Some, None}
+use Rattle.std.specs.List.{flat_map}
 use Rattle.wdt_units.specs.declared.limits.TheConstants.{MAX_BLOCKS}
 use Rattle.wdt_units.specs.Have.{HaveFile}
 use Rattle.wdt_units.specs.declared.blocks.Block.{Block}

@@ -1,6 +1,6 @@
 -- Which closed lanes are confirmed, of which a lane has still to tell, and when the finish is ready:
 -- read off the history alone.
-use Rattle.std.specs.Prelude.{ℕ, ◌&&◌, ◌||◌, not, Bool, List, filter, length}
+use Rattle.std.specs.Prelude.{ℕ, ◌&&◌, ◌||◌, not, Bool, List, filter}
 use Rattle.wdt_sender_fsm.specs.Rules.{every}
 use Rattle.wdt_receiver_fsm.specs.declared.events.RecvEvent.{RecvEvent}
 use Rattle.wdt_receiver_fsm.specs.ReceiverHistory.{confirm_of, past_of}

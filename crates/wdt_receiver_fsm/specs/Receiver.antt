@@ -1,8 +1,7 @@
 -- What every plain receiver keeps, also one that has failed.
-use Rattle.std.specs.Prelude.{◌≡◌, ◌≢◌, ◌⊎◌, ℕ, ◌<◌, ◌≤◌, Bool, true, false, List, [], length, map, Option, Some, None}
+use Rattle.std.specs.Prelude.{◌≡◌, ◌≢◌, ◌⊎◌, ℕ, ◌<◌, ◌≤◌, Bool, true, false, [], length, map, Option, Some, None}
 use Rattle.wdt_units.specs.declared.limits.TheConstants.{MAX_CONNECTIONS, MAX_TRIES}
 use Rattle.wdt_units.specs.declared.blocks.Block.{Block}
-use Rattle.wdt_sender_fsm.specs.declared.answers.EndAnswer.{EndAnswer}
 use Rattle.wdt_sender_fsm.specs.Rules.{is_failure}
 use Rattle.wdt_receiver_fsm.specs.declared.states.RecvLane.{RecvLane}
 use Rattle.wdt_receiver_fsm.specs.declared.states.RecvState.{RecvState}

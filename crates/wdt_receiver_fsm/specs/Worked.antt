@@ -1,5 +1,5 @@
 -- Worked steps.
-use Rattle.std.specs.Prelude.{ℕ, true, false, List, [], ◌∷◌, ◌++◌, Some, None}
+use Rattle.std.specs.Prelude.{ℕ, true, false, List, [], ◌∷◌, ◌++◌, Some}
 use Rattle.wdt_units.specs.declared.limits.TheConstants.{DEFAULT_BATCH}
 use Rattle.wdt_units.specs.Have.{PlainSpan}
 use Rattle.wdt_units.specs.declared.blocks.Block.{Block}
@@ -16,7 +16,6 @@ use Rattle.wdt_logfmt.specs.Spelling.{closed_batch}
 use Rattle.wdt_logfmt.specs.View.{NamedFile}
 use Rattle.wdt_sender_fsm.specs.declared.answers.EndAnswer.TheVariants as answers
 use Rattle.wdt_sender_fsm.specs.declared.peers.PeerKind.{PeerKind}
-use Rattle.wdt_sender_fsm.specs.declared.peers.PeerKind.TheVariants as peers
 use Rattle.wdt_receiver_fsm.specs.declared.acts.RecvAct.TheVariants as acts
 use Rattle.wdt_receiver_fsm.specs.declared.events.RecvEvent.{RecvEvent}
 use Rattle.wdt_receiver_fsm.specs.declared.events.RecvEvent.TheVariants as events

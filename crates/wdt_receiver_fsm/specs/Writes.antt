@@ -1,5 +1,5 @@
 -- What a lane is given to write lies in the grammar's ranges.
-use Rattle.std.specs.Prelude.{◌≤◌, ℕ}
+use Rattle.std.specs.Prelude.{◌≤◌}
 use Rattle.wdt_codec.specs.Chunks.{FitsChunks}
 use Rattle.wdt_codec.specs.Frames.{Fits}
 use Rattle.wdt_codec.specs.declared.frames.Frame.{Frame}
@@ -9,7 +9,7 @@ use Rattle.wdt_receiver_fsm.specs.declared.acts.RecvAct.{RecvAct}
 use Rattle.wdt_receiver_fsm.specs.declared.acts.RecvAct.TheVariants as acts
 use Rattle.wdt_receiver_fsm.specs.declared.inputs.RecvIn.TheVariants as inputs
 use Rattle.wdt_receiver_fsm.specs.PlainReceiver.{PlainReceiver, have_now}
-use Rattle.wdt_receiver_fsm.specs.Turn.{Bytes, Given, Put}
+use Rattle.wdt_receiver_fsm.specs.Turn.{Given, Put}
 
 -- what is read is in the grammar's ranges
 abbrev pub FitsPut : Put → Type 0
