@@ -21,24 +21,28 @@ use Rattle.wdt_receiver_fsm.proofs.Keeping.{judged_fails}
 use Rattle.wdt_receiver_fsm.proofs.RowSteps.{failed_step, over_step}
 
 module _ (r : PlainReceiver) (l : Lane) (put : Put) where
-  -- a new failure, whichever receiver stands behind it with this history
-  fails_cause : (t : PlainReceiver) (a : EndAnswer) (mute : Bool) → Fails r l put t a mute → (u : PlainReceiver) → u.history ≡ t.history → IsCause r l put u a
-  fails_cause t a mute (OfMemory m going given lives is) u same = (given, going, same)
-  fails_cause t a mute (OfSender state code at reads given) u same = (record { state = state; serves = at; reads = reads; said = given }, same)
-  fails_cause t a mute (OfPeer state kind at reads wrong) u same = (inl record { state = state; serves = at; reads = reads; said = wrong }, same)
-  fails_cause t a mute (OfShort i kind why short) u same = (inr record { idle = i; finishes = why; short = short }, same)
-  fails_cause t a mute (OfMake h at sized given right new) u same = record { stands = r; fails = OfMake h at sized given right new }
-  fails_cause t a mute (OfWrite bytes b at given begun) u same = record { stands = r; fails = OfWrite bytes b at given begun }
-  fails_cause t a mute (OfLog b lands full) u same = record { stands = t; fails = OfLog b lands full }
-  fails_cause t a mute (OfFinish i why) u same = record { stands = t; fails = OfFinish i why }
+  voiced_history : (t : PlainReceiver) (mute : Bool) → (by_voice mute (leaves t l) (tells_failure t l)).1.history ≡ t.history
+  voiced_history t true = refl
+  voiced_history t false = refl
+
+  -- the receiver behind a failure
+  abbrev behind : PlainReceiver → EndAnswer → Bool → PlainReceiver
+  behind t a mute = (by_voice mute (leaves (failed t a) l) (tells_failure (failed t a) l)).1
+
+  -- a new failure has its cause
+  fails_cause : (t : PlainReceiver) (a : EndAnswer) (mute : Bool) → Fails r l put t a mute → IsCause r l put (behind t a mute) a
+  fails_cause t a mute (OfMemory m going given lives is) = (given, going, voiced_history (failed r answers.NoMemory) m)
+  fails_cause t a mute (OfSender state code at reads given) = (record { state = state; serves = at; reads = reads; said = given }, refl)
+  fails_cause t a mute (OfPeer state kind at reads wrong) = (inl record { state = state; serves = at; reads = reads; said = wrong }, refl)
+  fails_cause t a mute (OfShort i kind why short) = (inr record { idle = i; finishes = why; short = short }, refl)
+  fails_cause t a mute (OfMake h at sized given right new) = record { stands = r; fails = OfMake h at sized given right new; behind = refl }
+  fails_cause t a mute (OfWrite bytes b at given begun) = record { stands = r; fails = OfWrite bytes b at given begun; behind = refl }
+  fails_cause t a mute (OfLog b lands full) = record { stands = t; fails = OfLog b lands full; behind = refl }
+  fails_cause t a mute (OfFinish i why) = record { stands = t; fails = OfFinish i why; behind = refl }
 
   pub voiced_answer : (t : PlainReceiver) (mute : Bool) → is_failure t.answer ≡ true → (by_voice mute (leaves t l) (tells_failure t l)).1.answer ≡ t.answer
   voiced_answer t true fails = judged_failure t.answer _ _ fails
   voiced_answer t false fails = judged_failure t.answer _ _ fails
-
-  voiced_history : (t : PlainReceiver) (mute : Bool) → (by_voice mute (leaves t l) (tells_failure t l)).1.history ≡ t.history
-  voiced_history t true = refl
-  voiced_history t false = refl
 
   no_cause : (t : PlainReceiver) (a : EndAnswer) → is_failure a ≡ false → IsCause r l put t a
   no_cause t answers.Going sound = tt
@@ -111,9 +115,7 @@ module _ (r : PlainReceiver) (l : Lane) (put : Put) where
 
     failed_caused : (t : PlainReceiver) (a : EndAnswer) (mute : Bool) → Fails r l put t a mute → Caused (by_voice mute (leaves (failed t a) l) (tells_failure (failed t a) l))
     failed_caused t a mute why =
-        let step : Step = by_voice mute (leaves (failed t a) l) (tells_failure (failed t a) l) in
-        subst (λ (x : EndAnswer). IsCause r l put (by_voice mute (leaves (failed t a) l) (tells_failure (failed t a) l)).1 x) (sym (voiced_answer (failed t a) mute (fails_here r t l put a mute why).1))
-        (fails_cause t a mute why (by_voice mute (leaves (failed t a) l) (tells_failure (failed t a) l)).1 (voiced_history (failed t a) mute))
+        subst (λ (x : EndAnswer). IsCause r l put (behind t a mute) x) (sym (voiced_answer (failed t a) mute (fails_here r t l put a mute why).1)) (fails_cause t a mute why)
 
     outcome_caused : (o : Outcome) → ComesOf r l put o → Caused (came_to r l o)
     outcome_caused Rested of = still_sound (came_to r l Rested) sound

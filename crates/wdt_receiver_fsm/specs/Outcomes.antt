@@ -1,5 +1,5 @@
 -- What a step of a lane comes to, in one word: how the lane stands behind it, which act it gets, and why.
-use Rattle.std.specs.Prelude.{◌≡◌, ℕ, ◌-◌, Bool, true, false, List, [], ◌∷◌, length, is_some, Some, None}
+use Rattle.std.specs.Prelude.{◌≡◌, ℕ, ◌-◌, Bool, true, false, List, [], ◌∷◌, length, is_some, Some, None, Option}
 use Rattle.wdt_units.specs.declared.blocks.Block.{Block}
 use Rattle.wdt_units.specs.declared.blocks.Header.{Header}
 use Rattle.wdt_units.specs.declared.numbers.Lane.{Lane}
@@ -18,12 +18,12 @@ use Rattle.wdt_receiver_fsm.specs.declared.events.RecvEvent.TheVariants as event
 use Rattle.wdt_receiver_fsm.specs.declared.inputs.RecvIn.TheVariants as inputs
 use Rattle.wdt_receiver_fsm.specs.declared.states.RecvState.{RecvState}
 use Rattle.wdt_receiver_fsm.specs.declared.states.RecvState.TheVariants as states
-use Rattle.wdt_receiver_fsm.specs.Frames.{block_fault, settings_fault, short_fault, size_fault}
+use Rattle.wdt_receiver_fsm.specs.Frames.{short_fault, size_fault}
 use Rattle.wdt_receiver_fsm.specs.Logging.{all_logged}
-use Rattle.wdt_receiver_fsm.specs.PlainReceiver.{PlainReceiver, begun_blocks, can_finish, failed, goes, has_finish, is_batch_full, is_ended, lane_at, marks_at, noted, past_at, state_at, untold_at, with_lane}
+use Rattle.wdt_receiver_fsm.specs.PlainReceiver.{PlainReceiver, can_finish, failed, goes, has_finish, is_batch_full, is_ended, lane_at, marks_at, noted, past_at, state_at, untold_at, with_lane}
 use Rattle.wdt_receiver_fsm.specs.ReceiverHistory.{end_of}
 use Rattle.wdt_receiver_fsm.specs.Rows.{Unexpected, is_mute, is_mute_at, is_reading, is_stray, place_of, row_of}
-use Rattle.wdt_receiver_fsm.specs.Turn.{Put, Given, Bytes, Step, begins, drops_lane, given_up, greets_by, idles_lane, is_used_up, knows, lands, leaves, links, lists_by, meets, reads, rests, row_at, says_done, sized_by, takes_piece, tells_by, tells_failure, waited_lane, waits_by}
+use Rattle.wdt_receiver_fsm.specs.Turn.{Put, Given, Bytes, Step, begins, block_fault_at, drops_lane, given_up, greets_by, idles_lane, is_used_up, knows, lands, leaves, links, lists_by, meets, reads, rests, row_at, says_done, settings_fault_at, sized_by, takes_piece, tells_by, tells_failure, waited_lane, waits_by}
 
 -- ---- the outcomes
 
@@ -90,6 +90,10 @@ came_to r l Acknowledged = leaves (noted r (events.Acked l ∷ [])) l
 
 -- ---- why a step comes to it
 
+-- once all that landed is logged, what is there is otherwise than what was to be sent
+abbrev pub short_after : PlainReceiver → Option PeerKind
+short_after t = short_fault (end_of t.history).sized (files_in (marks_at (all_logged t))) (bytes_in (marks_at (all_logged t)))
+
 -- the table has the lane's step: the end hasn't failed, and the lane stands in this state
 pub record Serves (r : PlainReceiver) (l : Lane) (state : RecvState) : Type 0 where
   pub sound : is_failure r.answer ≡ false
@@ -148,26 +152,35 @@ pub data Mistakes (r : PlainReceiver) (l : Lane) (state : RecvState) (put : Put)
   -- bytes that are no frame
   NoFrame : (at : ℕ) → put ≡ Given (inputs.Bad at) → kind ≡ peers.BadFrame at → Mistakes r l state put kind
   -- a frame that has no row
-  NoPlace : (frame : Frame) (command : ℕ) → put ≡ Given (inputs.Got frame) → row_of (lane_at r l.0).is_sized state (inputs.Got frame) ≡ Unexpected (place_of state) command → kind ≡ peers.Unexpected (place_of state) command → Mistakes r l state put kind
+  NoPlace : (frame : Frame) (command : ℕ) → put ≡ Given (inputs.Got frame) → row_of (lane_at r l.0).is_sized state (inputs.Got frame) ≡ Unexpected (place_of state) command
+      → kind ≡ peers.Unexpected (place_of state) command → Mistakes r l state put kind
   -- settings with a wrong field
-  WrongSettings : (settings : Settings) (field : ℕ) → put ≡ Given (inputs.Got (frames.Settings settings)) → state ≡ states.ReadSettings → settings_fault (length r.lanes) (end_of r.history).met l.0 (lane_at r l.0).conn settings ≡ Some field → kind ≡ peers.BadSettings field → Mistakes r l state put kind
+  WrongSettings : (settings : Settings) (field : ℕ) → put ≡ Given (inputs.Got (frames.Settings settings)) → state ≡ states.ReadSettings → settings_fault_at r l settings ≡ Some field
+      → kind ≡ peers.BadSettings field → Mistakes r l state put kind
   -- other totals than the first
-  OtherSize : (files bytes : ℕ) → put ≡ Given (inputs.Got (frames.Size files bytes)) → state ≡ states.ReadNextCmd → (lane_at r l.0).is_sized ≡ false → size_fault (end_of r.history).sized files bytes ≡ Some kind → Mistakes r l state put kind
+  OtherSize : (files bytes : ℕ) → put ≡ Given (inputs.Got (frames.Size files bytes)) → state ≡ states.ReadNextCmd → (lane_at r l.0).is_sized ≡ false
+      → size_fault (end_of r.history).sized files bytes ≡ Some kind → Mistakes r l state put kind
   -- a block that may not begin
-  WrongBlock : (header : Header) → put ≡ Given (inputs.Got (frames.Block header)) → state ≡ states.ReadNextCmd → (lane_at r l.0).is_sized ≡ true → block_fault r.known (marks_at r) (begun_blocks r) (length (past_at r l.0).landed) header ≡ Some kind → Mistakes r l state put kind
+  WrongBlock : (header : Header) → put ≡ Given (inputs.Got (frames.Block header)) → state ≡ states.ReadNextCmd → (lane_at r l.0).is_sized ≡ true → block_fault_at r l header ≡ Some kind
+      → Mistakes r l state put kind
 
 -- the end fails with this answer, from this plain receiver on
 pub data Fails (r : PlainReceiver) (l : Lane) (put : Put) : PlainReceiver → EndAnswer → Bool → Type 0 where
   -- memory ran out
-  OfMemory : (mute : Bool) → r.answer ≡ answers.Going → put ≡ Given inputs.Starved → is_ended (state_at r l.0) ≡ false → mute ≡ is_mute_at (state_at r l.0) → Fails r l put r answers.NoMemory mute
+  OfMemory : (mute : Bool) → r.answer ≡ answers.Going → put ≡ Given inputs.Starved → is_ended (state_at r l.0) ≡ false → mute ≡ is_mute_at (state_at r l.0)
+      → Fails r l put r answers.NoMemory mute
   -- the sender has failed
-  OfSender : (state : RecvState) (code : ℕ) → Serves r l state → is_reading state ≡ true → put ≡ Given (inputs.Got (frames.Abort code)) → Fails r l put (noted r (events.Abort l code ∷ [])) (answers.Aborted code) true
+  OfSender : (state : RecvState) (code : ℕ) → Serves r l state → is_reading state ≡ true → put ≡ Given (inputs.Got (frames.Abort code))
+      → Fails r l put (noted r (events.Abort l code ∷ [])) (answers.Aborted code) true
   -- the sender said what it may not say
-  OfPeer : (state : RecvState) (kind : PeerKind) → Serves r l state → is_reading state ≡ true → Mistakes r l state put kind → Fails r l put (noted r (events.Peer l kind ∷ [])) (answers.Peer kind) false
+  OfPeer : (state : RecvState) (kind : PeerKind) → Serves r l state → is_reading state ≡ true → Mistakes r l state put kind
+      → Fails r l put (noted r (events.Peer l kind ∷ [])) (answers.Peer kind) false
   -- at the finish something else is there than was to be sent; what landed is logged
-  OfShort : (t : PlainReceiver) (kind : PeerKind) → Finishes r l put t → short_fault (end_of t.history).sized (files_in (marks_at (all_logged t))) (bytes_in (marks_at (all_logged t))) ≡ Some kind → Fails r l put (noted (record (all_logged t) { history = r.history }) (events.Peer l kind ∷ [])) (answers.Peer kind) false
+  OfShort : (t : PlainReceiver) (kind : PeerKind) → Finishes r l put t → short_after t ≡ Some kind
+      → Fails r l put (noted (record (all_logged t) { history = r.history }) (events.Peer l kind ∷ [])) (answers.Peer kind) false
   -- the disk failed as a file was made
-  OfMake : (header : Header) → Serves r l states.ReadNextCmd → (lane_at r l.0).is_sized ≡ true → put ≡ Given (inputs.Got (frames.Block header)) → block_fault r.known (marks_at r) (begun_blocks r) (length (past_at r l.0).landed) header ≡ None → is_new r.known header ≡ true → Fails r l put r answers.Disk false
+  OfMake : (header : Header) → Serves r l states.ReadNextCmd → (lane_at r l.0).is_sized ≡ true → put ≡ Given (inputs.Got (frames.Block header)) → block_fault_at r l header ≡ None
+      → is_new r.known header ≡ true → Fails r l put r answers.Disk false
   -- as a piece was written
   OfWrite : (bytes : List ℕ) (b : Block) → Serves r l states.TakeBlock → put ≡ Bytes bytes → (past_at r l.0).begun ≡ Some b → Fails r l put r answers.Disk false
   -- as a landed block was logged
@@ -193,12 +206,14 @@ pub data ReadsOn (r : PlainReceiver) (l : Lane) (put : Put) : PlainReceiver → 
 -- the last word is due: the finish has come, or it comes now
 pub data Concludes (r : PlainReceiver) (l : Lane) (put : Put) : PlainReceiver → Type 0 where
   WasFinished : (t : PlainReceiver) → Idles r l put t → has_finish t ≡ true → Concludes r l put t
-  IsFinished : (t : PlainReceiver) → Finishes r l put t → short_fault (end_of t.history).sized (files_in (marks_at (all_logged t))) (bytes_in (marks_at (all_logged t))) ≡ None → Concludes r l put (noted (all_logged t) (events.Finish ∷ []))
+  IsFinished : (t : PlainReceiver) → Finishes r l put t → short_after t ≡ None → Concludes r l put (noted (all_logged t) (events.Finish ∷ []))
 
 -- a block begins whose file is known, or was made now
 pub data Begins (r : PlainReceiver) (l : Lane) (put : Put) : PlainReceiver → Block → Type 0 where
-  OfKnown : (header : Header) → Serves r l states.ReadNextCmd → (lane_at r l.0).is_sized ≡ true → put ≡ Given (inputs.Got (frames.Block header)) → block_fault r.known (marks_at r) (begun_blocks r) (length (past_at r l.0).landed) header ≡ None → is_new r.known header ≡ false → Begins r l put r (block_of r.known header)
-  OfNew : (header : Header) → Serves r l states.ReadNextCmd → (lane_at r l.0).is_sized ≡ true → put ≡ Given (inputs.Got (frames.Block header)) → block_fault r.known (marks_at r) (begun_blocks r) (length (past_at r l.0).landed) header ≡ None → is_new r.known header ≡ true → Begins r l put (knows r header) (block_of r.known header)
+  OfKnown : (header : Header) → Serves r l states.ReadNextCmd → (lane_at r l.0).is_sized ≡ true → put ≡ Given (inputs.Got (frames.Block header)) → block_fault_at r l header ≡ None
+      → is_new r.known header ≡ false → Begins r l put r (block_of r.known header)
+  OfNew : (header : Header) → Serves r l states.ReadNextCmd → (lane_at r l.0).is_sized ≡ true → put ≡ Given (inputs.Got (frames.Block header)) → block_fault_at r l header ≡ None
+      → is_new r.known header ≡ true → Begins r l put (knows r header) (block_of r.known header)
 
 -- an idle lane on an end whose finish isn't ready
 pub record IsIdle (r : PlainReceiver) (l : Lane) (put : Put) (t : PlainReceiver) (untold : List ℕ) : Type 0 where
@@ -226,7 +241,7 @@ ComesOf r l put (Failed t answer mute) = Fails r l put t answer mute
 ComesOf r l put (GivenUp t) = Listens r l put t × (is_used_up (past_at t l.0) ≡ true)
 ComesOf r l put (Listened t) = Listens r l put t × (is_used_up (past_at t l.0) ≡ false)
 ComesOf r l put Linked = Serves r l states.Listen × (put ≡ Given inputs.Linked)
-ComesOf r l put (Greeted settings) = Serves r l states.ReadSettings × (put ≡ Given (inputs.Got (frames.Settings settings))) × (settings_fault (length r.lanes) (end_of r.history).met l.0 (lane_at r l.0).conn settings ≡ None)
+ComesOf r l put (Greeted settings) = Serves r l states.ReadSettings × (put ≡ Given (inputs.Got (frames.Settings settings))) × (settings_fault_at r l settings ≡ None)
 ComesOf r l put Listed = Serves r l states.SendLocalCheckpoint × (put ≡ Given inputs.Wrote) × ((lane_at r l.0).ask ≡ true)
 ComesOf r l put (ReadOn t) = ReadsOn r l put t
 ComesOf r l put (Sized files bytes) = Serves r l states.ReadNextCmd × ((lane_at r l.0).is_sized ≡ false) × (put ≡ Given (inputs.Got (frames.Size files bytes))) × (size_fault (end_of r.history).sized files bytes ≡ None)

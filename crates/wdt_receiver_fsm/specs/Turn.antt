@@ -130,6 +130,10 @@ greets_by r l s true = writes (with_lane r l.0 record (lane_at r l.0) { state = 
 greets_by r l s false =
     writes (with_lane r l.0 record (lane_at r l.0) { state = states.SendLocalCheckpoint; ask = s.ask; conn = s.conn.0 }) (frames.Greeting (mark_of r.history l.0))
 
+-- the least wrong field of settings that the lane reads
+abbrev pub settings_fault_at : PlainReceiver → Lane → Settings → Option ℕ
+settings_fault_at r l s = settings_fault (length r.lanes) (end_of r.history).met l.0 (lane_at r l.0).conn s
+
 -- the settings are answered, or refused
 abbrev pub greets_with : PlainReceiver → Lane → Settings → Option ℕ → Step
 greets_with r l s (Some field) = faults r l (SettingsRead s) (peers.BadSettings field)
@@ -137,7 +141,7 @@ greets_with r l s None = greets_by (meets r l s) l s (has_finish r)
 
 -- the lane reads what the sender says of itself
 abbrev pub greets : PlainReceiver → Lane → Settings → Step
-greets r l s = greets_with r l s (settings_fault (length r.lanes) (end_of r.history).met l.0 (lane_at r l.0).conn s)
+greets r l s = greets_with r l s (settings_fault_at r l s)
 
 -- where the sender asked, the lane writes what the destination had
 abbrev pub lists_by : PlainReceiver → Lane → Bool → Step
@@ -193,6 +197,10 @@ abbrev pub makes_by : PlainReceiver → Lane → Header → Bool → Plan Step
 makes_by r l h true = calls (run_make h.path) (disk_fails r l (BlockRead h)) (ends (begins (knows r h) l (block_of r.known h)))
 makes_by r l h false = ends (begins r l (block_of r.known h))
 
+-- why the block of a header that the lane reads may not begin
+abbrev pub block_fault_at : PlainReceiver → Lane → Header → Option PeerKind
+block_fault_at r l h = block_fault r.known (marks_at r) (begun_blocks r) (length (past_at r l.0).landed) h
+
 -- the block begins, or is refused
 abbrev pub block_with : PlainReceiver → Lane → Header → Option PeerKind → Plan Step
 block_with r l h (Some kind) = ends (faults r l (BlockRead h) kind)
@@ -200,7 +208,7 @@ block_with r l h None = makes_by r l h (is_new r.known h)
 
 -- the lane reads a block's header
 abbrev pub block_plan : PlainReceiver → Lane → Header → Plan Step
-block_plan r l h = block_with r l h (block_fault r.known (marks_at r) (begun_blocks r) (length (past_at r l.0).landed) h)
+block_plan r l h = block_with r l h (block_fault_at r l h)
 
 -- the lane reads on
 abbrev pub reads_on : Lane → PlainReceiver → Plan Step
@@ -241,6 +249,10 @@ piece_plan r l bytes (Some b) = piece_of r l bytes b
 abbrev pub says_done : PlainReceiver → Lane → Step
 says_done r l = writes (goes r l.0 states.SendDone) frames.Done
 
+-- what is there is otherwise than what was to be sent
+abbrev pub short_fault_at : PlainReceiver → Option PeerKind
+short_fault_at r = short_fault (end_of r.history).sized (files_in (marks_at r)) (bytes_in (marks_at r))
+
 -- where another number of files or bytes is there than was to be sent, the finish doesn't come, and the
 -- history is as it was before the step
 abbrev pub finishes_with : List RecvEvent → PlainReceiver → Lane → Row → Option PeerKind → Step
@@ -250,7 +262,7 @@ finishes_with before r l row None = says_done (noted r (events.Finish ∷ [])) l
 -- what landed is compared with what was to be sent
 abbrev pub finishes : List RecvEvent → Lane → Row → PlainReceiver → Plan Step
 finishes before l row r =
-    ends (finishes_with before r l row (short_fault (end_of r.history).sized (files_in (marks_at r)) (bytes_in (marks_at r))))
+    ends (finishes_with before r l row (short_fault_at r))
 
 -- the finish: all that landed is logged, and compared with what was to be sent
 abbrev pub finish_plan : List RecvEvent → PlainReceiver → Lane → Row → Plan Step
