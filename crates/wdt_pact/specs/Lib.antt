@@ -1,0 +1,11 @@
+pub mod Each
+pub mod Links
+pub mod Pairs
+pub mod World
+pub mod Stances
+pub mod Lists
+pub mod Conversation
+pub mod Bytes
+pub mod Finishing
+pub mod Progress
+pub mod Measure

@@ -1,0 +1,2 @@
+//! Both ends of a transfer together, and their connections.
+#![tactic(auto)]
