@@ -17,3 +17,10 @@ mod Closing
 mod Reading
 mod Connecting
 mod Tellings
+mod Landing
+mod Progress
+mod Falls
+mod Ending
+mod Finishing
+mod Busy
+mod Apart
