@@ -8,6 +8,7 @@ mod Grows
 mod Rows
 mod RecvRows
 mod Opening
+mod Sending
 mod Greeting
 mod Claims
 mod Blocks
