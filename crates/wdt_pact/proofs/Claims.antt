@@ -29,7 +29,7 @@ use Rattle.wdt_pact.specs.Conversation.{Common, Sending as Side, Receiving, Conv
 use Rattle.wdt_pact.proofs.Links.{waits_not, sending_talk, held_late}
 use Rattle.wdt_pact.proofs.Lists.{has_done-append}
 use Rattle.wdt_pact.proofs.Frame.{row_turn}
-use Rattle.wdt_pact.proofs.Laws.{SenderKeeps}
+use Rattle.wdt_pact.proofs.Promised.{SenderKeeps}
 use Rattle.wdt_pact.proofs.Rows.{entry_keeps, fares_in}
 
 more_claimed : (greeted : Bool) (kept landed fly : List Header) (h : Header) → Parts greeted kept landed fly (λ rest. Unit {0}) → Parts greeted (kept ++ h ∷ []) landed fly (λ rest. Unit {0})

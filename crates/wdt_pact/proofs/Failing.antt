@@ -29,13 +29,13 @@ use Rattle.wdt_pact.specs.Lists.{in_hand, UnsentBy}
 use Rattle.wdt_pact.specs.Conversation.{Common, Sending, Receiving, Converses, Conversation, AllTell, Tells, NotesBy, IsNoMarks, common, sending, receiving, send_in_hand, upward_by}
 use Rattle.wdt_pact.proofs.Links.{falls_silent, fails_soon, up_calms}
 use Rattle.wdt_pact.proofs.Lists.{lists_weaker}
-use Rattle.wdt_pact.proofs.Laws.{SenderKeeps}
+use Rattle.wdt_pact.proofs.Promised.{SenderKeeps}
 use Rattle.wdt_pact.proofs.Rows.{row_at}
 use Rattle.wdt_pact.proofs.Frame.{row_turn, send_turn_keeps, sending_own_still, sending_other_still}
 
 -- ---- the talk
 
-silenced : (s r : Stance) (ds : List Message) (us : List Frame) → OnLink s r ds us → OnLink Silent r ds us
+pub silenced : (s r : Stance) (ds : List Message) (us : List Frame) → OnLink s r ds us → OnLink Silent r ds us
 silenced (Talks s) r ds us a = falls_silent down up is_abort_down is_abort is_calm is_any one_talker s r ds us a
 silenced Aborts (Talks r) ds us a = inl record { at = a.at; moves = a.moves }
 silenced Aborts Aborts ds us a = tt

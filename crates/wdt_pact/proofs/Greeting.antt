@@ -22,7 +22,7 @@ use Rattle.wdt_sender_fsm.specs.PlainSender.{PlainSender, lane_at, state_at, pas
 use Rattle.wdt_sender_fsm.specs.Rules.{is_failure}
 use Rattle.wdt_sender_fsm.specs.Sender.{FitsIn, IsSender}
 use Rattle.wdt_sender_fsm.specs.Turn.{Step, greeted_by, send_turn}
-use Rattle.wdt_pact.proofs.Laws.{SenderKeeps}
+use Rattle.wdt_pact.proofs.Promised.{SenderKeeps}
 use Rattle.wdt_pact.proofs.Rows.{entry_keeps, fares_in, row_at, stands_in}
 use Rattle.wdt_pact.specs.Links.{Link}
 use Rattle.wdt_pact.specs.Pairs.{SendHold, SendHas, RecvHold, Pair, send_takes}

@@ -34,7 +34,7 @@ use Rattle.wdt_pact.specs.Lists.{Splits-land, Splits-same, ListsBy, AskedBy, Uns
 use Rattle.wdt_pact.specs.Conversation.{Common, IsNamed, Sending, Receiving, Converses, Conversation, common, known_header, receiving, receiving_of, sending}
 use Rattle.wdt_pact.proofs.Below.{get_set, set_other}
 use Rattle.wdt_pact.proofs.Grows.{row_turn}
-use Rattle.wdt_pact.proofs.Laws.{ReceiverKeeps}
+use Rattle.wdt_pact.proofs.Promised.{ReceiverKeeps}
 use Rattle.wdt_pact.proofs.Lists.{Each-append}
 use Rattle.wdt_pact.proofs.RecvRows.{Behind, recv_entry_keeps, recv_fares, recv_row_at}
 use Rattle.wdt_pact.proofs.Tellings.{tells_landed}

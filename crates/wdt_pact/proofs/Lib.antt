@@ -1,5 +1,5 @@
 mod Below
-mod Laws
+mod Promised
 mod Bytes
 mod Links
 mod Lists
@@ -9,6 +9,7 @@ mod Rows
 mod RecvRows
 mod Opening
 mod Sending
+mod Hearing
 mod Greeting
 mod Claims
 mod Blocks

@@ -17,7 +17,7 @@ use Rattle.wdt_pact.specs.Pairs.{RecvHold, Pair, recv_gets}
 use Rattle.wdt_pact.specs.World.{PlainWorld, ended, number, pair_at, recv_steps, recv_steps_by, recv_turn, recv_turned}
 use Rattle.wdt_pact.specs.Conversation.{Common, Conversation, Converses, Grows, IsNamed, Receiving, closed_by, common, receiving, receiving_of, sending}
 use Rattle.wdt_pact.proofs.Grows.{recv_turn_keeps, converses_on}
-use Rattle.wdt_pact.proofs.Laws.{ReceiverKeeps}
+use Rattle.wdt_pact.proofs.Promised.{ReceiverKeeps}
 
 -- a lane stands as its state says
 pub recv_fares : (w : PlainWorld) (l : ℕ) (st : RecvState) → Conversation w → l < length w.pairs → state_at w.receiver l ≡ st → Fares (is_failure w.receiver.answer) st (lane_at w.receiver l) (past_at w.receiver l) (end_of w.receiver.history)

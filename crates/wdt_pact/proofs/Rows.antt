@@ -22,7 +22,7 @@ use Rattle.wdt_pact.specs.World.{PlainWorld, number, pair_at, send_steps, send_s
 use Rattle.wdt_pact.specs.Conversation.{Conversation, Converses, Sending, common, receiving, sending, sending_of}
 use Rattle.wdt_pact.proofs.Below.{get_set, set_other}
 use Rattle.wdt_pact.proofs.Frame.{row_turn, send_turn_keeps}
-use Rattle.wdt_pact.proofs.Laws.{SenderKeeps}
+use Rattle.wdt_pact.proofs.Promised.{SenderKeeps}
 
 -- the lane's side in a state
 abbrev pub stands_in : PlainSender → ℕ → SendState → Sending

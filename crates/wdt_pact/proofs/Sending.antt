@@ -28,7 +28,7 @@ use Rattle.wdt_pact.specs.Stances.{Stance, Talks, recv_stance}
 use Rattle.wdt_pact.specs.Lists.{AskedBy, in_hand, ListsBy, UnsentBy}
 use Rattle.wdt_pact.specs.Conversation.{Common, Sending, Receiving, Converses, Conversation, NotesBy, common, receiving, sending, sending_of}
 use Rattle.wdt_pact.proofs.Frame.{row_turn}
-use Rattle.wdt_pact.proofs.Laws.{SenderKeeps}
+use Rattle.wdt_pact.proofs.Promised.{SenderKeeps}
 use Rattle.wdt_pact.proofs.Lists.{lists_weaker}
 use Rattle.wdt_pact.proofs.Rows.{put_still, stands_in, turn_keeps, entry_keeps}
 

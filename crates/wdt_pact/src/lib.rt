@@ -1,2 +1,17 @@
-//! Both ends of a transfer together, and their connections.
+//! Both ends of a transfer together, and their connections: definitions and laws.
+//!
+//! A world is two plain ends and, for each lane, what both hold and the connections between them, by
+//! messages (`specs/World`, `specs/Pairs`, `specs/Links`). `specs/Stances` says how the ends stand on a
+//! connection and what may be on its way, `specs/Lists` what lies between what a lane has claimed and what
+//! has landed, `specs/Conversation` how the two ends of each lane fit together, `specs/Finishing` what holds
+//! of all lanes together, and `specs/Progress` who can move. `specs/Bytes` says what messages are in bytes,
+//! and `specs/Measure` gives a number that falls. There is no code but empty bodies: the contracts are laws.
 #![tactic(auto)]
+
+mod laws;
+
+pub use laws::{
+    a_lane_sends_its_blocks, a_lane_takes_up_its_connection, blocks_land,
+    connections_are_cut_and_taken, one_end_can_move, the_finish_is_right,
+    what_is_read_is_understood, what_is_read_was_written,
+};
