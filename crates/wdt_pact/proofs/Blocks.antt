@@ -26,7 +26,7 @@ use Rattle.wdt_pact.proofs.Frame.{pair_keeps}
 use Rattle.wdt_pact.proofs.Rows.{fares_in}
 use Rattle.wdt_pact.proofs.Lists.{no_blocks, no_done, are_pieces, Each-take, lists_written, asked_written, IsPiece}
 
-says_down : (ms : List Message) (s t : Phase) (r : Stance) (ds : List Message) (us : List Frame) → OnLink (Talks s) r ds us → moved down ms s ≡ Some t → OnLink (Talks t) r (ds ++ ms) us
+pub says_down : (ms : List Message) (s t : Phase) (r : Stance) (ds : List Message) (us : List Frame) → OnLink (Talks s) r ds us → moved down ms s ≡ Some t → OnLink (Talks t) r (ds ++ ms) us
 says_down ms s t r ds us a e = says_all down up is_abort_down is_abort is_calm is_any one_talker any_stays ms s t r ds us a e
 
 -- a front of what can be said can be said
@@ -59,7 +59,7 @@ second_of : {A B C : Type 0} → A ⊎ (B × C) → A ⊎ C
 second_of (inl a) = inl a
 second_of (inr b) = inr b.1
 
-silent : (t : Phase) (r : Stance) (ds : List Message) (us : List Frame) → OnLink (Talks t) r ds us → OnLink Silent r ds us
+pub silent : (t : Phase) (r : Stance) (ds : List Message) (us : List Frame) → OnLink (Talks t) r ds us → OnLink Silent r ds us
 silent t r ds us a = falls_silent down up is_abort_down is_abort is_calm is_any one_talker t r ds us a
 
 -- messages of the block are written: it is whole and was written, it is lost, or the source is

@@ -12,8 +12,6 @@ use Rattle.wdt_sender_fsm.specs.Talk.{moved}
 use Rattle.wdt_pact.proofs.Below.{moved-first}
 use Rattle.wdt_receiver_fsm.specs.declared.states.RecvLane.{RecvLane}
 use Rattle.wdt_receiver_fsm.specs.declared.acts.RecvAct.TheVariants as recv_acts
-use Rattle.wdt_receiver_fsm.specs.declared.inputs.RecvIn.TheVariants as recv_inputs
-use Rattle.wdt_receiver_fsm.specs.declared.states.RecvState.TheVariants as recv_states
 use Rattle.wdt_receiver_fsm.specs.PlainReceiver as recv
 use Rattle.wdt_receiver_fsm.specs.Ready.{is_confirmed}
 use Rattle.wdt_receiver_fsm.specs.Sets.{has}

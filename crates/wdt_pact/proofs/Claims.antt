@@ -1,7 +1,7 @@
 -- A sender's lane takes a block.
 use Rattle.std.proofs.Common.{◌≡◌, ◌≢◌, ℕ, ◌<◌, ◌≤◌, Bool, true, false, List, [], ◌∷◌, ◌++◌, length, map, Option, Some, None, is_some, subst, sym, ap, ◌∙◌, refl, eq-eqb, append_assoc}
 use Rattle.std.proofs.lemmas.Bool.{both_ways, ne_eqb, false_from_ne_true, or_from}
-use Rattle.std.proofs.lemmas.List.{map-append, length-set}
+use Rattle.std.proofs.lemmas.List.{map-append}
 use Rattle.wdt_claims.specs.LaneWords.{Claims, claimed}
 use Rattle.wdt_units.specs.declared.blocks.Block.{Block}
 use Rattle.wdt_units.specs.declared.blocks.Header.{Header}
@@ -15,14 +15,13 @@ use Rattle.wdt_sender_fsm.specs.declared.states.SendState.TheVariants as states
 use Rattle.wdt_sender_fsm.specs.Phases.{Sending, Message}
 use Rattle.wdt_sender_fsm.specs.PlainSender.{PlainSender, lane_at, state_at, past_at, is_closed, least_queued, header_of, noted, with_lane}
 use Rattle.wdt_sender_fsm.specs.Rules.{is_failure}
-use Rattle.wdt_sender_fsm.specs.Sender.{IsSender}
 use Rattle.wdt_sender_fsm.specs.SenderHistory.{LanePast, past_after}
-use Rattle.wdt_sender_fsm.specs.Turn.{Step, send_turn, next_by}
+use Rattle.wdt_sender_fsm.specs.Turn.{send_turn, next_by}
 use Rattle.wdt_sender_fsm.specs.Rows.{SizeWritten, row_of}
 use Rattle.wdt_receiver_fsm.specs.declared.states.RecvLane.{RecvLane}
 use Rattle.wdt_pact.specs.Links.{Link}
-use Rattle.wdt_pact.specs.Pairs.{SendHold, SendHas, RecvHold, Pair, send_takes}
-use Rattle.wdt_pact.specs.World.{PlainWorld, pair_at, number, send_steps, send_steps_by, send_turned}
+use Rattle.wdt_pact.specs.Pairs.{SendHas, RecvHold, Pair, send_takes}
+use Rattle.wdt_pact.specs.World.{PlainWorld, pair_at, number, send_steps}
 use Rattle.wdt_pact.specs.Stances.{Stance, Talks, Aborts, Silent, OnLink, is_late, recv_stance}
 use Rattle.wdt_pact.specs.Lists.{begun_heads, Splits-claim, Splits-same, Parts, ListsBy, AskedBy, flying, in_hand, has_done}
 use Rattle.wdt_pact.specs.Conversation.{Common, Sending as Side, Receiving, Converses, Conversation, sent_header, common, sending, receiving}
@@ -117,8 +116,8 @@ claim_keeps keeps w l lost b c within here opens sound holds least unfinished =
     (turn_is w.sender l b here (ap is_some opens) sound least)
     (λ k p ne. quiet_claim k l b p ne)
     (λ lane. subst (λ (xs : List Header). Converses (common w.receiver) l record { lane = new; past = after; kept = xs } (receiving w.receiver l) (send_takes (record p { send = SendHas inputs.Wrote }) inputs.Wrote after.is_greeted (acts.SendBlock (header_of w.sender b)))) (sym own)
-        (claims_here (common w.receiver) l ask past after kept (receiving w.receiver l) (header_of w.sender b) p.recv p.taken p.between p.newest p.denies p.refusals after.is_greeted
-        (fares_in w l states.SendSize c within here opens).greeted unfinished refl (ap (λ (x : Claims). x.sure) claims) (ap (λ (x : Claims). x.held) claims) (ap (λ (x : Claims). x.closed) claims ∙ opens) lane)) where
+    (claims_here (common w.receiver) l ask past after kept (receiving w.receiver l) (header_of w.sender b) p.recv p.taken p.between p.newest p.denies p.refusals after.is_greeted
+    (fares_in w l states.SendSize c within here opens).greeted unfinished refl (ap (λ (x : Claims). x.sure) claims) (ap (λ (x : Claims). x.held) claims) (ap (λ (x : Claims). x.closed) claims ∙ opens) lane)) where
       p : Pair
       p = pair_at w l
 

@@ -135,7 +135,7 @@ module _ (g : Common) (l : ℕ) (s : Sending) (lane : RecvLane) (past : RecvPast
         lists = lists_take k Silent taken (UnsentBy (Some t) s.lane.state sh) (UnsentBy (Some t) s.lane.state sh) c.waits.fresh.0 still.0 c.lists;
         sure = c.sure;
         upward = c.upward;
-      fits = c.fits;
+        fits = c.fits;
         notes = c.notes;
         closed = c.closed;
         asked = λ e. absurd (both_ways (has_done k.down.sent) still.1 e);
@@ -157,7 +157,7 @@ module _ (g : Common) (l : ℕ) (s : Sending) (lane : RecvLane) (past : RecvPast
         lists = lists_take t Silent taken (UnsentBy (Some t) s.lane.state sh) (UnsentBy None s.lane.state sh) c.waits.fresh_newest still.0 c.lists;
         sure = c.sure;
         upward = c.upward;
-      fits = c.fits;
+        fits = c.fits;
         notes = c.notes;
         closed = c.closed;
         asked = λ e. absurd (both_ways (has_done t.down.sent) still.1 e);
@@ -178,7 +178,7 @@ module _ (g : Common) (l : ℕ) (s : Sending) (lane : RecvLane) (past : RecvPast
         lists = c.lists;
         sure = c.sure;
         upward = c.upward;
-      fits = c.fits;
+        fits = c.fits;
         notes = c.notes;
         closed = c.closed;
         asked = c.asked;

@@ -1,6 +1,6 @@
 -- The receiver's lane reads the last word, and the finish comes with it.
 -- Of the step the parts of the lane and of the others stand here; the world's statement joins them with Finishing, and is open.
-use Rattle.std.proofs.Common.{◌≡◌, ◌⊎◌, inl, inr, ℕ, Bool, true, false, List, [], ◌∷◌, ◌++◌, Option, Some, None, subst, sym, ap, ◌∙◌, refl}
+use Rattle.std.proofs.Common.{◌≡◌, inl, inr, ℕ, Bool, true, false, List, [], ◌∷◌, ◌++◌, Option, Some, None, subst, sym, ap, ◌∙◌, refl}
 use Rattle.std.proofs.lemmas.Bool.{both_ways}
 use Rattle.std.proofs.lemmas.Option.{same_Some}
 use Rattle.wdt_units.specs.declared.blocks.Header.{Header}
@@ -13,10 +13,7 @@ use Rattle.wdt_sender_fsm.specs.declared.states.SendLane.{SendLane}
 use Rattle.wdt_sender_fsm.specs.Phases.{Phase, Open, Met, Listing, Sending, Asked, Message, up, phase_by, phase_heard}
 use Rattle.wdt_sender_fsm.specs.Talk.{moved}
 use Rattle.wdt_pact.proofs.Below.{moved-first}
-use Rattle.wdt_receiver_fsm.specs.declared.acts.RecvAct.{RecvAct}
-use Rattle.wdt_receiver_fsm.specs.declared.events.RecvEvent.{RecvEvent}
 use Rattle.wdt_receiver_fsm.specs.declared.states.RecvLane.{RecvLane}
-use Rattle.wdt_receiver_fsm.specs.declared.states.RecvState.{RecvState}
 use Rattle.wdt_receiver_fsm.specs.declared.acts.RecvAct.TheVariants as recv_acts
 use Rattle.wdt_receiver_fsm.specs.declared.inputs.RecvIn.TheVariants as recv_inputs
 use Rattle.wdt_receiver_fsm.specs.declared.states.RecvState.TheVariants as recv_states

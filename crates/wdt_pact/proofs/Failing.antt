@@ -30,7 +30,6 @@ use Rattle.wdt_pact.specs.Conversation.{Common, Sending, Receiving, Converses, C
 use Rattle.wdt_pact.proofs.Links.{falls_silent, fails_soon, up_calms}
 use Rattle.wdt_pact.proofs.Lists.{lists_weaker}
 use Rattle.wdt_pact.proofs.Promised.{SenderKeeps}
-use Rattle.wdt_pact.proofs.Rows.{row_at}
 use Rattle.wdt_pact.proofs.Frame.{row_turn, send_turn_keeps, sending_own_still, sending_other_still}
 
 -- ---- the talk

@@ -17,12 +17,8 @@ use Rattle.wdt_sender_fsm.specs.SenderHistory.{LanePast, past_of as sent_past}
 use Rattle.wdt_pact.proofs.Below.{moved-first, one_talker}
 use Rattle.wdt_sender_fsm.specs.Talk.{moved}
 use Rattle.wdt_receiver_fsm.specs.declared.events.RecvEvent.{RecvEvent}
-use Rattle.wdt_receiver_fsm.specs.declared.states.RecvLane.{RecvLane}
-use Rattle.wdt_receiver_fsm.specs.declared.states.RecvState.{RecvState}
-use Rattle.wdt_receiver_fsm.specs.declared.acts.RecvAct.TheVariants as recv_acts
 use Rattle.wdt_receiver_fsm.specs.declared.inputs.RecvIn.TheVariants as recv_inputs
 use Rattle.wdt_receiver_fsm.specs.declared.states.RecvState.TheVariants as recv_states
-use Rattle.wdt_units.specs.declared.numbers.Lane.{Lane}
 use Rattle.wdt_receiver_fsm.specs.declared.events.RecvEvent.TheVariants as recv_events
 use Rattle.wdt_receiver_fsm.specs.PlainReceiver.{PlainReceiver}
 use Rattle.wdt_receiver_fsm.specs.Ready as ready

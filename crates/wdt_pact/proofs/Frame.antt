@@ -1,5 +1,5 @@
 -- What a step of one lane leaves of the others.
-use Rattle.std.proofs.Common.{◌≡◌, ◌≢◌, ℕ, ◌<◌, ◌==◌, List, [], ◌∷◌, ◌++◌, length, map, slice_get, slice_set, Bool, true, false, subst, sym, ap, ◌∙◌, refl, eqb-true}
+use Rattle.std.proofs.Common.{◌≡◌, ◌≢◌, ℕ, ◌<◌, ◌==◌, List, [], ◌∷◌, ◌++◌, length, slice_get, slice_set, Bool, true, false, subst, sym, ap, ◌∙◌, refl, eqb-true}
 use Rattle.std.proofs.lemmas.Bool.{eqb-false}
 use Rattle.std.proofs.lemmas.List.{length-set}
 use Rattle.wdt_sender_fsm.specs.declared.acts.SendAct.{SendAct}
@@ -10,12 +10,11 @@ use Rattle.wdt_sender_fsm.specs.Rows.{Row, Starved, row_of}
 use Rattle.wdt_sender_fsm.specs.Rules.{is_failure}
 use Rattle.wdt_sender_fsm.specs.Turn.{send_turn, turned, ruled, turn_row, after_starving, is_over}
 use Rattle.wdt_sender_fsm.specs.PlainSender.{PlainSender, state_at, is_closed, past_at, lane_at, lane_or_ended, with_lane, noted}
-use Rattle.wdt_sender_fsm.specs.SenderHistory.{LanePast, past_after, past_of, past_of-more}
+use Rattle.wdt_sender_fsm.specs.SenderHistory.{past_after, past_of, past_of-more}
 use Rattle.wdt_sender_fsm.specs.Sender.{IsSender}
-use Rattle.wdt_receiver_fsm.specs.PlainReceiver as recv
 use Rattle.wdt_pact.specs.Pairs.{Pair, send_takes}
 use Rattle.wdt_pact.specs.World.{PlainWorld, pair_or, pair_at, with_pair, send_turned, number}
-use Rattle.wdt_pact.specs.Conversation.{Sending, IsNamed, sending_of, sending, receiving, common, Converses, Conversation}
+use Rattle.wdt_pact.specs.Conversation.{Sending, sending_of, sending, receiving, common, Converses, Conversation}
 use Rattle.wdt_pact.proofs.Below.{get_set, lane_set, served, set_other}
 
 -- what holds of lane l with its new pair, and of the others with theirs, holds of all

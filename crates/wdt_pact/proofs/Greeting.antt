@@ -1,7 +1,7 @@
 -- A sender's lane is told its count.
 use Rattle.std.proofs.Common.{◌≡◌, ◌≢◌, ℕ, ◌<◌, ◌≤◌, List, [], ◌∷◌, ◌++◌, length, map, Bool, true, false, Option, Some, None, is_some, subst, sym, ap, ◌∙◌, refl, arith, eq-eqb}
 use Rattle.std.proofs.lemmas.Bool.{both_ways, le-leb, ne_eqb}
-use Rattle.std.proofs.lemmas.List.{length-set, length-map}
+use Rattle.std.proofs.lemmas.List.{length-map}
 use Rattle.wdt_units.specs.declared.blocks.Header.{Header}
 use Rattle.wdt_codec.specs.declared.frames.Frame.{Frame}
 use Rattle.wdt_codec.specs.declared.frames.Frame.TheVariants as frames
@@ -20,16 +20,16 @@ use Rattle.wdt_sender_fsm.specs.declared.states.SendLane.{SendLane}
 use Rattle.wdt_sender_fsm.specs.Faults.{count_fault}
 use Rattle.wdt_sender_fsm.specs.PlainSender.{PlainSender, lane_at, state_at, past_at, is_closed, size_of_tree, noted, with_lane}
 use Rattle.wdt_sender_fsm.specs.Rules.{is_failure}
-use Rattle.wdt_sender_fsm.specs.Sender.{FitsIn, IsSender}
-use Rattle.wdt_sender_fsm.specs.Turn.{Step, greeted_by, send_turn}
+use Rattle.wdt_sender_fsm.specs.Sender.{FitsIn}
+use Rattle.wdt_sender_fsm.specs.Turn.{greeted_by, send_turn}
 use Rattle.wdt_pact.proofs.Promised.{SenderKeeps}
 use Rattle.wdt_pact.proofs.Rows.{entry_keeps, fares_in, row_at, stands_in}
 use Rattle.wdt_pact.specs.Links.{Link}
-use Rattle.wdt_pact.specs.Pairs.{SendHold, SendHas, RecvHold, Pair, send_takes}
-use Rattle.wdt_pact.specs.World.{number, PlainWorld, pair_at, send_steps, send_steps_by, send_turned}
+use Rattle.wdt_pact.specs.Pairs.{SendHas, RecvHold, Pair, send_takes}
+use Rattle.wdt_pact.specs.World.{number, PlainWorld, pair_at, send_steps}
 use Rattle.wdt_pact.specs.Stances.{Stance, Talks, Aborts, Silent, recv_stance}
 use Rattle.wdt_pact.specs.Lists.{Splits-cut, Splits-same, cut_heads, cut_heads-map, in_hand, ListsBy, UnsentBy, AskedBy, RestBy, flying, flying_by}
-use Rattle.wdt_pact.specs.Conversation.{Common, Sending, Receiving, Converses, ConversesAt, Conversation, sent_header, common, sending, receiving}
+use Rattle.wdt_pact.specs.Conversation.{Common, Sending, Receiving, Converses, Conversation, sent_header, common, sending, receiving}
 use Rattle.wdt_pact.proofs.Links.{waits_not}
 use Rattle.wdt_pact.proofs.Lists.{landed_few}
 
@@ -159,9 +159,9 @@ greeting_keeps keeps w l lost m c within here opens sound holds fits =
     entry_keeps keeps w l lost states.ReadLocalCheckpoint (inputs.Got (frames.Greeting m)) e (act_by ask (size_of_tree w.sender)) new c within here holds fits is
     (λ k p ne. quiet_greet k l m.count p ne)
     (λ lane. subst (λ (xs : List Header). Converses (common w.receiver) l record { lane = new; past = after; kept = xs } (receiving w.receiver l) (send_takes (record p { send = SendHas (inputs.Got (frames.Greeting m)) }) (inputs.Got (frames.Greeting m)) after.is_greeted (act_by ask (size_of_tree w.sender)))) (sym own)
-        (greets_here (common w.receiver) l ask past after kept (receiving w.receiver l) m p.recv p.taken p.between p.newest p.denies p.refusals (size_of_tree w.sender)
-        (fares_in w l states.ReadLocalCheckpoint c within here opens).greeted
-        (greeted_there l m.count past) (ap (λ (x : Claims). x.sure) claims) (ap (λ (x : Claims). x.held) claims) (ap (λ (x : Claims). x.closed) claims ∙ opens) lane)) where
+    (greets_here (common w.receiver) l ask past after kept (receiving w.receiver l) m p.recv p.taken p.between p.newest p.denies p.refusals (size_of_tree w.sender)
+    (fares_in w l states.ReadLocalCheckpoint c within here opens).greeted
+    (greeted_there l m.count past) (ap (λ (x : Claims). x.sure) claims) (ap (λ (x : Claims). x.held) claims) (ap (λ (x : Claims). x.closed) claims ∙ opens) lane)) where
       p : Pair
       p = pair_at w l
 

@@ -1,5 +1,5 @@
 -- A turn of the receiver's lane leaves the other lanes' part.
-use Rattle.std.proofs.Common.{◌≡◌, ◌≢◌, ℕ, ◌<◌, List, [], ◌∷◌, ◌++◌, length, Bool, true, false, Option, subst, sym, ap, ◌∙◌, refl}
+use Rattle.std.proofs.Common.{◌≡◌, ◌≢◌, ℕ, ◌<◌, List, [], ◌∷◌, ◌++◌, length, Bool, true, false, subst, sym, ap, ◌∙◌, refl}
 use Rattle.std.proofs.lemmas.List.{length-set}
 use Rattle.wdt_units.specs.declared.blocks.Header.{Header}
 use Rattle.wdt_codec.specs.declared.frames.Frame.{Frame}
@@ -9,15 +9,14 @@ use Rattle.wdt_sender_fsm.specs.Rules.{is_failure}
 use Rattle.wdt_receiver_fsm.specs.declared.acts.RecvAct.{RecvAct}
 use Rattle.wdt_receiver_fsm.specs.declared.events.RecvEvent.{RecvEvent}
 use Rattle.wdt_receiver_fsm.specs.declared.states.RecvLane.{RecvLane}
-use Rattle.wdt_receiver_fsm.specs.Plan.{Plan}
 use Rattle.wdt_receiver_fsm.specs.PlainReceiver.{PlainReceiver, lane_at, lane_or_ended, noted, past_at, with_lane}
 use Rattle.wdt_receiver_fsm.specs.Receiver.{IsReceiver}
-use Rattle.wdt_receiver_fsm.specs.ReceiverHistory.{RecvPast, past_from, past_of, past_of-append}
+use Rattle.wdt_receiver_fsm.specs.ReceiverHistory.{past_from, past_of, past_of-append}
 use Rattle.wdt_receiver_fsm.specs.Rows.{Row, Starved}
-use Rattle.wdt_receiver_fsm.specs.Turn.{Put, Step, after_starving, is_over, row_at, ruled, turn_plan, turn_row, turned}
+use Rattle.wdt_receiver_fsm.specs.Turn.{Put, after_starving, is_over, row_at, ruled, turn_plan, turn_row, turned}
 use Rattle.wdt_pact.specs.Each.{Each}
 use Rattle.wdt_pact.specs.Stances.{Stance, Talks, Aborts, Silent}
-use Rattle.wdt_pact.specs.Pairs.{RecvDoes, Pair, recv_gets}
+use Rattle.wdt_pact.specs.Pairs.{Pair, recv_gets}
 use Rattle.wdt_pact.specs.World.{PlainWorld, number, pair_at, recv_turned}
 use Rattle.wdt_pact.specs.Conversation.{Common, Grows, IsNamed, Sending, Receiving, Converses, Conversation, Marks, Tells, AllTell, common, receiving_of, sending, receiving}
 use Rattle.wdt_pact.proofs.Below.{get_set, set_other}
@@ -80,7 +79,7 @@ recv_turn_keeps w l act r c within is lanes grows named others own =
       lanes = λ k below.
           each_pair (λ i q. Converses (common r) i (sending w.sender i) (receiving r i) q) w.pairs l p within own
           (λ i b ne. subst (λ (x : Receiving). Converses (common r) i (sending w.sender i) x (pair_at w i)) (sym (others i b ne))
-              (converses_on (common w.receiver) (common r) i (sending w.sender i) (receiving w.receiver i) (pair_at w i) grows (c.lanes i b))) k
+          (converses_on (common w.receiver) (common r) i (sending w.sender i) (receiving w.receiver i) (pair_at w i) grows (c.lanes i b))) k
           (subst (λ (n : ℕ). k < n) (length-set w.pairs l p) below);
     }
 

@@ -1,6 +1,5 @@
 -- The sender's lane reads a frame, or that its connection is lost.
-use Rattle.std.proofs.Common.{◌≡◌, ◌⊎◌, inl, inr, ℕ, ◌<◌, ◌||◌, ◌&&◌, Bool, true, false, List, [], ◌∷◌, ◌++◌, length, Option, Some, None, is_some, subst, sym, ap, ◌∙◌, refl}
-use Rattle.std.proofs.lemmas.Bool.{both_ways}
+use Rattle.std.proofs.Common.{◌≡◌, inl, inr, ℕ, ◌<◌, ◌||◌, Bool, true, false, List, ◌∷◌, ◌++◌, length, Option, Some, None, subst, sym, ap, ◌∙◌, refl}
 use Rattle.std.proofs.lemmas.Option.{same_Some}
 use Rattle.wdt_units.specs.declared.blocks.Header.{Header}
 use Rattle.wdt_codec.specs.Frames.{Fits}
@@ -9,7 +8,6 @@ use Rattle.wdt_codec.specs.declared.frames.Frame.TheVariants as frames
 use Rattle.wdt_sender_fsm.specs.declared.acts.SendAct.TheVariants as acts
 use Rattle.wdt_sender_fsm.specs.declared.inputs.SendIn.{SendIn}
 use Rattle.wdt_sender_fsm.specs.declared.inputs.SendIn.TheVariants as inputs
-use Rattle.wdt_sender_fsm.specs.declared.states.SendLane.{SendLane}
 use Rattle.wdt_sender_fsm.specs.declared.states.SendState.{SendState}
 use Rattle.wdt_sender_fsm.specs.declared.states.SendState.TheVariants as states
 use Rattle.wdt_sender_fsm.specs.Phases.{Phase, Open, Met, Listing, Told, Sending as SendingPhase, Mid, Asked, Bye, Over, Message, down, up, is_abort, phase_by, phase_heard}
@@ -23,13 +21,13 @@ use Rattle.wdt_pact.specs.Pairs.{SendHold, SendDoes, SendHas, RecvHold, Pair, re
 use Rattle.wdt_pact.specs.World.{PlainWorld, pair_at, send_steps, send_steps_by}
 use Rattle.wdt_sender_fsm.specs.PlainSender.{lane_at, past_at, state_at}
 use Rattle.wdt_pact.specs.Stances.{Stance, Talks, Aborts, Silent, IsLate, OnLink, is_abort_down, is_any, is_calm, is_late, recv_stance, send_aborts, send_stance, stand}
-use Rattle.wdt_pact.specs.Lists.{in_hand, ListsBy, Unsent, UnsentBy}
-use Rattle.wdt_pact.specs.Conversation.{AllTell, Common, Conversation, Converses, common, receiving, sending, IsIdle, IsNoMarks, IsWord, Notes, Receiving, Sending, Tells, is_send_out, send_in_hand, to_say, HeardUp}
+use Rattle.wdt_pact.specs.Lists.{in_hand, Unsent, UnsentBy}
+use Rattle.wdt_pact.specs.Conversation.{AllTell, Common, Conversation, Converses, common, receiving, sending, IsNoMarks, IsWord, Notes, Receiving, Sending, Tells, is_send_out, send_in_hand, to_say, HeardUp}
 use Rattle.wdt_pact.proofs.Below.{if_has, one_talker}
 use Rattle.wdt_pact.proofs.Failing.{silenced}
 use Rattle.wdt_pact.proofs.Frame.{pair_keeps}
 use Rattle.wdt_pact.proofs.Reading.{front_head}
-use Rattle.wdt_pact.proofs.Links.{falls_silent, hears_one, waits_at}
+use Rattle.wdt_pact.proofs.Links.{hears_one, waits_at}
 use Rattle.wdt_pact.proofs.Lists.{lists_weaker}
 
 -- ---- states in which the lane reads

@@ -1,14 +1,12 @@
 -- A receiver's lane begins a block, and lands it.
-use Rattle.std.proofs.Common.{◌≡◌, ◌≢◌, inl, inr, ℕ, zero, suc, ◌-◌, ◌<◌, min, Bool, true, false, if◌then◌else◌, List, [], ◌∷◌, ◌++◌, length, map, option_map, Option, Some, None, is_some, subst, sym, ap, ◌∙◌, refl, arith, eq-eqb, length-append}
-use Rattle.std.proofs.lemmas.Bool.{both_ways, ne_eqb, false_from_ne_true}
+use Rattle.std.proofs.Common.{◌≡◌, ◌≢◌, ℕ, suc, ◌-◌, ◌<◌, min, Bool, true, false, List, [], ◌∷◌, ◌++◌, length, map, option_map, Option, Some, None, subst, sym, ap, ◌∙◌, refl, arith, eq-eqb, length-append}
+use Rattle.std.proofs.lemmas.Bool.{both_ways, ne_eqb}
 use Rattle.std.proofs.lemmas.List.{length-replicate, length-set, map-append}
 use Rattle.wdt_units.specs.declared.blocks.Block.{Block}
 use Rattle.wdt_units.specs.declared.blocks.Header.{Header}
 use Rattle.wdt_codec.specs.declared.frames.Frame.TheVariants as frames
-use Rattle.wdt_logfmt.specs.Beginning.{KnownFile, known_at}
 use Rattle.wdt_sender_fsm.specs.Phases.{Phase, Sending as SendingPhase, Mid, Framed, piece_from, piece_most, with_left}
 use Rattle.wdt_sender_fsm.specs.Rules.{is_failure}
-use Rattle.wdt_receiver_fsm.specs.declared.acts.RecvAct.{RecvAct}
 use Rattle.wdt_receiver_fsm.specs.declared.acts.RecvAct.TheVariants as recv_acts
 use Rattle.wdt_receiver_fsm.specs.declared.events.RecvEvent.{RecvEvent}
 use Rattle.wdt_receiver_fsm.specs.declared.events.RecvEvent.TheVariants as recv_events
@@ -22,21 +20,20 @@ use Rattle.wdt_receiver_fsm.specs.Phases.{sized_by}
 use Rattle.wdt_receiver_fsm.specs.Plan.{Plan}
 use Rattle.wdt_receiver_fsm.specs.PlainReceiver.{PlainReceiver, goes, is_batch_full, lane_at, lane_or_ended, past_at, state_at}
 use Rattle.wdt_receiver_fsm.specs.Receiver.{Fares}
-use Rattle.wdt_receiver_fsm.specs.ReceiverHistory.{RecvPast, end_from, end_of, past_from}
+use Rattle.wdt_receiver_fsm.specs.ReceiverHistory.{RecvPast, end_of, past_from}
 use Rattle.wdt_receiver_fsm.specs.Rows.{Piece, piece_row}
-use Rattle.wdt_receiver_fsm.specs.Turn.{Bytes, Step, logs_by, piece_by, piece_of, piece_plan, reads, turn_row}
-use Rattle.wdt_pact.specs.Each.{Each}
+use Rattle.wdt_receiver_fsm.specs.Turn.{Bytes, Step, logs_by, piece_by, piece_plan, reads}
 use Rattle.wdt_pact.specs.Links.{Link}
-use Rattle.wdt_pact.specs.Pairs.{SendHold, RecvHold, RecvDoes, RecvHas, RecvTook, Pair}
+use Rattle.wdt_pact.specs.Pairs.{SendHold, RecvDoes, RecvHas, RecvTook, Pair}
 use Rattle.wdt_pact.specs.World.{PlainWorld, ended, number, pair_at, recv_steps, recv_turn, some_bytes}
-use Rattle.wdt_pact.specs.Stances.{Stance, Talks, Agrees, send_stance, stand, recv_stance}
+use Rattle.wdt_pact.specs.Stances.{Stance, Talks, Agrees, send_stance, stand}
 use Rattle.wdt_pact.specs.Lists.{Splits-land, Splits-same, ListsBy, AskedBy, UnsentBy, blocks_in, flying}
-use Rattle.wdt_pact.specs.Conversation.{Common, IsNamed, Sending, Receiving, Converses, Conversation, common, known_header, receiving, receiving_of, sending}
+use Rattle.wdt_pact.specs.Conversation.{Common, IsNamed, Sending, Receiving, Converses, Conversation, common, known_header, receiving_of, sending}
 use Rattle.wdt_pact.proofs.Below.{get_set, set_other}
 use Rattle.wdt_pact.proofs.Grows.{row_turn}
 use Rattle.wdt_pact.proofs.Promised.{ReceiverKeeps}
 use Rattle.wdt_pact.proofs.Lists.{Each-append}
-use Rattle.wdt_pact.proofs.RecvRows.{Behind, recv_entry_keeps, recv_fares, recv_row_at}
+use Rattle.wdt_pact.proofs.RecvRows.{Behind, recv_entry_keeps, recv_fares}
 use Rattle.wdt_pact.proofs.Tellings.{tells_landed}
 
 with_some : (n : ℕ) → with_left (suc n) ≡ Mid (suc n)
@@ -192,7 +189,7 @@ lands_turn : (r : PlainReceiver) (l n : ℕ) (b : Block) → state_at r l ≡ re
     → recv_turn r l (Bytes (some_bytes n)) None ≡ reads (goes (logged_if (is_batch_full (landed_by r (number l) b)) (landed_by r (number l) b)) l recv_states.ReadNextCmd)
 lands_turn r l n b here sound begun last =
     ap (λ (x : Plan Step). ended x None) (row_turn r l (Bytes (some_bytes n)) (Piece (some_bytes n)) (ap (λ (x : RecvState). piece_row x (some_bytes n)) here) refl refl sound
-        ∙ ap (piece_plan r (number l) (some_bytes n)) begun)
+    ∙ ap (piece_plan r (number l) (some_bytes n)) begun)
     ∙ (ap (λ (k : ℕ). ended (piece_by r (number l) b (Piece (some_bytes n)) k) None) (ap (λ (k : ℕ). (lane_at r l).left - k) (length-some n) ∙ last)
     ∙ logs_end (is_batch_full (landed_by r (number l) b)) (landed_by r (number l) b) l n) where
       length-some : (k : ℕ) → length (some_bytes k) ≡ k
@@ -208,8 +205,8 @@ land_keeps keeps w l n c within here sound holds last b begun =
     refl fares.0.goes_on.closed (λ k p ne. quiet_land k l p ne)
     (subst (IsNamed w.receiver.known) (sym there) record { landed = Each-append _ past.landed (b ∷ []) (c.named l within).landed ((c.named l within).begun b begun, tt); begun = λ x e. cc })
     (λ at. subst (λ (x : Receiving). Converses (common w.receiver) l (sending w.sender l) x (record p { recv = RecvDoes recv_acts.Read })) (sym own)
-        (lands_here (common w.receiver) l (sending w.sender l) lane past (past_from l past (recv_events.Land (number l) ∷ [])) (map (known_header w.receiver.known) past.landed) (option_map (known_header w.receiver.known) past.begun) (known_header w.receiver.known b) b n
-        p.send p.taken p.between p.newest p.denies p.refusals fares.0.idle fares.0.goes_on.closed (λ e. both_ways (common w.receiver).finish fares.0.finish e) fares.2 last (ap (option_map (known_header w.receiver.known)) begun) there at)) where
+    (lands_here (common w.receiver) l (sending w.sender l) lane past (past_from l past (recv_events.Land (number l) ∷ [])) (map (known_header w.receiver.known) past.landed) (option_map (known_header w.receiver.known) past.begun) (known_header w.receiver.known b) b n
+    p.send p.taken p.between p.newest p.denies p.refusals fares.0.idle fares.0.goes_on.closed (λ e. both_ways (common w.receiver).finish fares.0.finish e) fares.2 last (ap (option_map (known_header w.receiver.known)) begun) there at)) where
       p : Pair
       p = pair_at w l
 

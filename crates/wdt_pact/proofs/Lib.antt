@@ -10,6 +10,7 @@ mod RecvRows
 mod Opening
 mod Sending
 mod Hearing
+mod Writing
 mod Greeting
 mod Claims
 mod Blocks

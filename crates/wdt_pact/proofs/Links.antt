@@ -10,9 +10,7 @@ use Rattle.wdt_sender_fsm.specs.Talk.{moved, OneTalker}
 use Rattle.wdt_pact.proofs.Below.{moved-first, says, hears, turned}
 use Rattle.wdt_pact.specs.Stances.{Stance, Talks, Aborts, Silent, Follows, Rests, Hears, Between, OnLink, is_calm, is_any, is_late, stand, recv_stance}
 use Rattle.wdt_receiver_fsm.specs.declared.states.RecvLane.{RecvLane}
-use Rattle.wdt_receiver_fsm.specs.declared.acts.RecvAct.TheVariants as recv_acts
 use Rattle.wdt_receiver_fsm.specs.declared.inputs.RecvIn.TheVariants as recv_inputs
-use Rattle.wdt_receiver_fsm.specs.declared.states.RecvState.TheVariants as recv_states
 use Rattle.wdt_receiver_fsm.specs.Phases as recv
 use Rattle.wdt_pact.specs.Pairs.{RecvHold, RecvHas}
 use Rattle.wdt_pact.specs.Lists.{in_hand, is_done, has_done}

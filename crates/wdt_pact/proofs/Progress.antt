@@ -5,16 +5,14 @@ use Rattle.std.proofs.lemmas.Option.{same_Some}
 use Rattle.wdt_codec.specs.declared.frames.Frame.{Frame}
 use Rattle.wdt_sender_fsm.specs.declared.acts.SendAct.TheVariants as acts
 use Rattle.wdt_sender_fsm.specs.Phases.{Phase, Met, Listing, Asked, Message}
-use Rattle.wdt_receiver_fsm.specs.declared.acts.RecvAct.{RecvAct}
 use Rattle.wdt_receiver_fsm.specs.declared.acts.RecvAct.TheVariants as recv_acts
-use Rattle.wdt_receiver_fsm.specs.declared.inputs.RecvIn.TheVariants as recv_inputs
 use Rattle.wdt_receiver_fsm.specs.declared.states.RecvState.TheVariants as recv_states
 use Rattle.wdt_pact.specs.Links.{Link, front, is_cut, size_down, size_up}
 use Rattle.wdt_pact.specs.Pairs.{SendHold, SendDoes, SendHas, RecvHold, RecvDoes, RecvHas, RecvTook, Pair, recv_stops, send_stops, top_by}
 use Rattle.wdt_sender_fsm.specs.declared.states.SendState.{SendState}
 use Rattle.wdt_receiver_fsm.specs.declared.states.RecvState.{RecvState}
 use Rattle.wdt_pact.specs.Stances.{Stance, Talks, Aborts, Silent, AgreeOn, Agrees, OnLink, send_there}
-use Rattle.wdt_pact.specs.Progress.{Holds, IsCutBy, Listens, Moves, down_gives, has_some, is_recv_off, up_gives, send_listens, recv_listens, send_moves, recv_moves, is_parked}
+use Rattle.wdt_pact.specs.Progress.{Holds, IsCutBy, Listens, Moves, down_gives, has_some, is_recv_off, up_gives, send_listens, recv_listens}
 
 -- what isn't cut can be taken
 front_some : {M : Type 0} (size : M → ℕ) (m : M) (ms : List M) (room : Option ℕ) → is_some room ≡ false → is_some (front size record { sent = m ∷ ms; room = room }) ≡ true

@@ -10,14 +10,13 @@ use Rattle.wdt_sender_fsm.specs.Phases.{Phase, Message, Framed, down, up, is_abo
 use Rattle.wdt_pact.proofs.Below.{one_talker, turned_talker}
 use Rattle.wdt_receiver_fsm.specs.declared.acts.RecvAct.TheVariants as recv_acts
 use Rattle.wdt_receiver_fsm.specs.declared.inputs.RecvIn.TheVariants as recv_inputs
-use Rattle.wdt_receiver_fsm.specs.declared.states.RecvState.TheVariants as recv_states
 use Rattle.wdt_receiver_fsm.specs.Phases as recv
 use Rattle.wdt_pact.specs.Links.{Link, Way, front_of, front_by, has_room, less}
 use Rattle.wdt_pact.specs.Pairs.{SendHold, RecvHold, RecvDoes, RecvHas, Pair, top_by}
-use Rattle.wdt_pact.specs.Stances.{Stance, Talks, Agrees, IsLate, OnLink, is_abort_down, is_any, is_calm, recv_stance, send_stance, send_there, stand}
+use Rattle.wdt_pact.specs.Stances.{Stance, Talks, Agrees, OnLink, is_abort_down, is_any, is_calm, recv_stance, send_stance, send_there, stand}
 use Rattle.wdt_pact.specs.Lists.{ListsBy, AskedBy, UnsentBy, Splits-same, flying, has_done}
 use Rattle.wdt_pact.specs.Conversation.{Common, Sending, Receiving, Converses, AllTell, IsIdle, IsWord, NotesBy, is_recv_out, Tells, upward_by}
-use Rattle.wdt_pact.proofs.Links.{hears_one, late_stays, turned_on}
+use Rattle.wdt_pact.proofs.Links.{hears_one, turned_on}
 
 -- what can be taken stands at the front
 pub front_head : {M : Type 0} (size : M → ℕ) (ms : List M) (room : Option ℕ) (m : M) (rest : Way M) → front_of size ms room ≡ Some (m, rest) → ms ≡ m ∷ rest.sent

@@ -1,7 +1,6 @@
 -- What a row of the receiver's table needs of its lane, and one wrapper for the rows that know no more files.
-use Rattle.std.proofs.Common.{◌≡◌, ◌≢◌, ◌⊎◌, inl, inr, ℕ, zero, suc, ◌<◌, List, [], ◌∷◌, ◌++◌, length, Bool, true, false, if◌then◌else◌, Option, Some, None, subst, sym, ap, ◌∙◌, refl}
+use Rattle.std.proofs.Common.{◌≡◌, ◌≢◌, inl, inr, ℕ, zero, suc, ◌<◌, List, ◌++◌, length, Bool, true, false, if◌then◌else◌, Option, Some, None, subst, sym, ap, ◌∙◌, refl}
 use Rattle.std.proofs.lemmas.Bool.{cases_eq}
-use Rattle.wdt_units.specs.Have.{HaveFile}
 use Rattle.wdt_logfmt.specs.View.{NamedFile}
 use Rattle.wdt_sender_fsm.specs.Rules.{is_failure}
 use Rattle.wdt_receiver_fsm.specs.declared.acts.RecvAct.{RecvAct}
@@ -13,9 +12,9 @@ use Rattle.wdt_receiver_fsm.specs.PlainReceiver.{PlainReceiver, has_finish, have
 use Rattle.wdt_receiver_fsm.specs.Receiver.{Fares, IsReceiver}
 use Rattle.wdt_receiver_fsm.specs.ReceiverHistory.{EndPast, RecvPast, end_from, end_of, end_of-append, past_from, past_of, past_of-append}
 use Rattle.wdt_receiver_fsm.specs.Turn.{Put, Step, turn_plan}
-use Rattle.wdt_pact.specs.Pairs.{RecvHold, Pair, recv_gets}
+use Rattle.wdt_pact.specs.Pairs.{RecvHold, recv_gets}
 use Rattle.wdt_pact.specs.World.{PlainWorld, ended, number, pair_at, recv_steps, recv_steps_by, recv_turn, recv_turned}
-use Rattle.wdt_pact.specs.Conversation.{Common, Conversation, Converses, Grows, IsNamed, Receiving, closed_by, common, receiving, receiving_of, sending}
+use Rattle.wdt_pact.specs.Conversation.{Conversation, Converses, Grows, IsNamed, Receiving, closed_by, common, receiving, receiving_of, sending}
 use Rattle.wdt_pact.proofs.Grows.{recv_turn_keeps, converses_on}
 use Rattle.wdt_pact.proofs.Promised.{ReceiverKeeps}
 

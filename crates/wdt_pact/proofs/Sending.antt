@@ -1,8 +1,6 @@
 -- A sender's lane goes on to its next state: the rows that change neither what it claimed nor what is on its way.
-use Rattle.std.proofs.Common.{◌≡◌, ◌≢◌, ℕ, ◌+◌, ◌<◌, ◌≤◌, List, [], ◌∷◌, ◌++◌, length, map, Bool, true, false, not, Option, Some, None, is_some, subst, sym, ap, ◌∙◌, refl, eq-eqb, append-nil}
-use Rattle.std.proofs.lemmas.Bool.{both_ways, ne_eqb}
-use Rattle.wdt_units.specs.Have.{HaveFile}
-use Rattle.wdt_units.specs.declared.blocks.Block.{Block}
+use Rattle.std.proofs.Common.{◌≡◌, ◌≢◌, ℕ, ◌+◌, ◌<◌, ◌≤◌, List, [], ◌∷◌, length, Bool, true, false, not, Option, Some, None, is_some, subst, sym, ap, ◌∙◌, refl, eq-eqb, append-nil}
+use Rattle.std.proofs.lemmas.Bool.{ne_eqb}
 use Rattle.wdt_units.specs.declared.blocks.Header.{Header}
 use Rattle.wdt_units.specs.declared.numbers.Conn.{Conn}
 use Rattle.wdt_claims.specs.LaneWords.{Claims}
@@ -18,19 +16,18 @@ use Rattle.wdt_sender_fsm.specs.declared.states.SendState.TheVariants as states
 use Rattle.wdt_sender_fsm.specs.PlainSender.{PlainSender, lane_at, past_at, state_at, is_closed, least_queued, noted, settings_of, with_lane}
 use Rattle.wdt_sender_fsm.specs.Rows.{Linked, SettingsWritten, SizeWritten, Waits as WaitsRow, row_of}
 use Rattle.wdt_sender_fsm.specs.Rules.{is_failure}
-use Rattle.wdt_sender_fsm.specs.Sender.{FitsIn}
-use Rattle.wdt_sender_fsm.specs.SenderHistory.{LanePast, past_after, past_from}
-use Rattle.wdt_sender_fsm.specs.Turn.{Step, introduces, next_by, next_conn, send_turn}
+use Rattle.wdt_sender_fsm.specs.SenderHistory.{LanePast, past_after}
+use Rattle.wdt_sender_fsm.specs.Turn.{next_by, next_conn, send_turn}
 use Rattle.wdt_pact.specs.Links.{Link, note_greeted}
 use Rattle.wdt_pact.specs.Pairs.{SendHold, SendDoes, SendHas, RecvHold, Pair, send_takes, top_by}
 use Rattle.wdt_pact.specs.World.{PlainWorld, number, pair_at, send_steps}
-use Rattle.wdt_pact.specs.Stances.{Stance, Talks, recv_stance}
-use Rattle.wdt_pact.specs.Lists.{AskedBy, in_hand, ListsBy, UnsentBy}
+use Rattle.wdt_pact.specs.Stances.{recv_stance}
+use Rattle.wdt_pact.specs.Lists.{AskedBy, in_hand, UnsentBy}
 use Rattle.wdt_pact.specs.Conversation.{Common, Sending, Receiving, Converses, Conversation, NotesBy, common, receiving, sending, sending_of}
 use Rattle.wdt_pact.proofs.Frame.{row_turn}
 use Rattle.wdt_pact.proofs.Promised.{SenderKeeps}
 use Rattle.wdt_pact.proofs.Lists.{lists_weaker}
-use Rattle.wdt_pact.proofs.Rows.{put_still, stands_in, turn_keeps, entry_keeps}
+use Rattle.wdt_pact.proofs.Rows.{put_still, turn_keeps, entry_keeps}
 
 -- ---- a frame was read by which nothing changes of what the connection knows
 
@@ -129,7 +126,7 @@ linked_keeps keeps w l lost c within here opens sound holds =
     (linked_turn w.sender l here (ap is_some opens) sound)
     (λ k p ne. quiet_link k l conn p ne)
     (λ at. subst (λ (x : LanePast). Converses (common w.receiver) l (sending_of w.sender.manifest new x) (receiving w.receiver l) (send_takes (pair_at w l) inputs.Linked x.is_greeted (acts.Write (settings_of w.sender (number l) conn ask)))) (sym (link_there l conn (past_at w.sender l)))
-        (links_here (common w.receiver) l (lane_at w.sender l).ask ask (past_at w.sender l) (linked_past (past_at w.sender l)) (sending w.sender l).kept (receiving w.receiver l) (pair_at w l).recv (pair_at w l).taken (pair_at w l).between (pair_at w l).newest (pair_at w l).denies (pair_at w l).refusals false (settings_of w.sender (number l) conn ask) refl refl at)) where
+    (links_here (common w.receiver) l (lane_at w.sender l).ask ask (past_at w.sender l) (linked_past (past_at w.sender l)) (sending w.sender l).kept (receiving w.receiver l) (pair_at w l).recv (pair_at w l).taken (pair_at w l).between (pair_at w l).newest (pair_at w l).denies (pair_at w l).refusals false (settings_of w.sender (number l) conn ask) refl refl at)) where
       conn : Conn
       conn = next_conn w.sender (number l)
 
@@ -224,7 +221,7 @@ wait_keeps keeps w l lost c within here opens sound holds =
     record { manifest = refl; history = sym (append-nil w.sender.history); lanes = refl; own = ap (λ (x : SendState). record { state = x; ask = (lane_at w.sender l).ask }) here; others = λ j ne. refl }
     (λ k p ne. refl)
     (λ at. subst (Converses (common w.receiver) l (waiting (lane_at w.sender l).ask past kept) (receiving w.receiver l)) (noted_same (SendHas (inputs.Got frames.Wait)) frames.Wait past.is_greeted acts.Read p.recv p.taken p.between p.newest p.denies p.refusals (told_of (SendHas (inputs.Got frames.Wait)) past p.newest p.taken at.notes))
-        (waits_here (common w.receiver) l (lane_at w.sender l).ask past kept (receiving w.receiver l) p.recv p.taken p.between p.newest p.denies p.refusals at)) where
+    (waits_here (common w.receiver) l (lane_at w.sender l).ask past kept (receiving w.receiver l) p.recv p.taken p.between p.newest p.denies p.refusals at)) where
       p : Pair
       p = pair_at w l
 

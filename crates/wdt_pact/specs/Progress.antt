@@ -1,6 +1,6 @@
 -- Which lanes can move, and what is needed for it: readers listen in phases in which the other end has the word,
 -- what is written is a move, and what was left behind is cut.
-use Rattle.std.specs.Prelude.{◌≡◌, ◌⊎◌, ℕ, ◌||◌, nat_lt, Bool, true, false, List, [], ◌∷◌, is_some, Option, Some, None}
+use Rattle.std.specs.Prelude.{◌≡◌, ◌⊎◌, ◌||◌, nat_lt, Bool, true, false, List, [], ◌∷◌, is_some, Option, Some, None}
 use Rattle.wdt_sender_fsm.specs.declared.acts.SendAct.TheVariants as acts
 use Rattle.wdt_sender_fsm.specs.declared.inputs.SendIn.TheVariants as inputs
 use Rattle.wdt_sender_fsm.specs.declared.states.SendState.{SendState}

@@ -1,5 +1,5 @@
 -- How each end stands on a connection, and what is on its way there.
-use Rattle.std.specs.Prelude.{◌≡◌, ◌⊎◌, ℕ, Bool, true, false, List, [], ◌∷◌, ◌++◌, Option, Some, None}
+use Rattle.std.specs.Prelude.{◌≡◌, ◌⊎◌, Bool, true, false, List, [], ◌∷◌, ◌++◌, Option, Some, None}
 use Rattle.wdt_codec.specs.declared.frames.Frame.{Frame}
 use Rattle.wdt_sender_fsm.specs.declared.inputs.SendIn.TheVariants as inputs
 use Rattle.wdt_sender_fsm.specs.declared.states.SendLane.{SendLane}
@@ -78,7 +78,8 @@ Hears {M} move calm fails p ms = Follows move p ms ⊎ Fails move calm fails p m
 -- ---- a connection between two stances
 
 -- what one end says is ds by down, what the other says is us by up; a failure is told only in a calm phase
-abbrev pub Between : {D U : Type 0} → (Phase → D → Option Phase) → (Phase → U → Option Phase) → (D → Bool) → (U → Bool) → (Phase → Bool) → (Phase → Bool) → Stance → Stance → List D → List U → Type 0
+abbrev pub Between : {D U : Type 0} → (Phase → D → Option Phase) → (Phase → U → Option Phase) → (D → Bool) → (U → Bool) → (Phase → Bool) → (Phase → Bool)
+    → Stance → Stance → List D → List U → Type 0
 Between down up fd fu cd cu (Talks s) (Talks r) ds us = Talk down up s r ds us
 Between down up fd fu cd cu (Talks s) Aborts ds us = Rests up cu s us
 Between down up fd fu cd cu (Talks s) Silent ds us = Hears up cu fu s us

@@ -8,10 +8,11 @@ ghost use Rattle.wdt_codec.specs.Frames.{Fits};
 ghost use Rattle.wdt_codec.specs.declared.frames.Frame.{Frame};
 ghost use Rattle.wdt_codec.specs.declared.frames.Frame.TheVariants as frames;
 ghost use Rattle.wdt_codec.specs.declared.frames.Mark.{Mark};
+ghost use Rattle.wdt_codec.specs.declared.frames.Settings.{Settings};
 ghost use Rattle.wdt_sender_fsm.specs.declared.acts.SendAct.TheVariants as acts;
 ghost use Rattle.wdt_sender_fsm.specs.declared.inputs.SendIn.TheVariants as inputs;
 ghost use Rattle.wdt_sender_fsm.specs.declared.states.SendState.TheVariants as states;
-ghost use Rattle.wdt_sender_fsm.specs.PlainSender.{least_queued, past_at, state_at, waiting_blocks};
+ghost use Rattle.wdt_sender_fsm.specs.PlainSender.{lane_at, least_queued, past_at, state_at, waiting_blocks};
 ghost use Rattle.wdt_sender_fsm.specs.Phases.{Message};
 ghost use Rattle.wdt_sender_fsm.specs.Rows.{is_reading};
 ghost use Rattle.wdt_sender_fsm.specs.Rules.{is_failure};
@@ -41,9 +42,15 @@ use wdt_sender_fsm::{histories_are_sound, senders_stay_senders};
 /// A sender's lane comes to its blocks: its connection stands, what the sender is is written, and it is told
 /// its count, of which it keeps so many of its blocks, so that these are what has landed on it.
 pub fn a_lane_takes_up_its_connection()
-    ensures linked { (w : PlainWorld) (l : ℕ) (lost : Option ℕ) → Conversation w → l < length w.pairs → state_at w.sender l ≡ states.Connect → (past_at w.sender l).claims.closed ≡ None → is_failure w.sender.answer ≡ false → (pair_at w l).send ≡ SendHas inputs.Linked → Conversation (send_steps w l lost) }
-    ensures settings { (w : PlainWorld) (l : ℕ) (lost : Option ℕ) → Conversation w → l < length w.pairs → state_at w.sender l ≡ states.SendSettings → (past_at w.sender l).claims.closed ≡ None → is_failure w.sender.answer ≡ false → (pair_at w l).send ≡ SendHas inputs.Wrote → Conversation (send_steps w l lost) }
-    ensures greeted { (w : PlainWorld) (l : ℕ) (lost : Option ℕ) (mark : Mark) → Conversation w → l < length w.pairs → state_at w.sender l ≡ states.ReadLocalCheckpoint → (past_at w.sender l).claims.closed ≡ None → is_failure w.sender.answer ≡ false → (pair_at w l).send ≡ SendHas (inputs.Got (frames.Greeting mark)) → FitsIn (inputs.Got (frames.Greeting mark)) → Conversation (send_steps w l lost) }
+    ensures linked { (w : PlainWorld) (l : ℕ) (lost : Option ℕ) → Conversation w → l < length w.pairs → state_at w.sender l ≡ states.Connect
+        → (past_at w.sender l).claims.closed ≡ None → is_failure w.sender.answer ≡ false → (pair_at w l).send ≡ SendHas inputs.Linked
+        → Conversation (send_steps w l lost) }
+    ensures settings { (w : PlainWorld) (l : ℕ) (lost : Option ℕ) → Conversation w → l < length w.pairs → state_at w.sender l ≡ states.SendSettings
+        → (past_at w.sender l).claims.closed ≡ None → is_failure w.sender.answer ≡ false → (pair_at w l).send ≡ SendHas inputs.Wrote
+        → Conversation (send_steps w l lost) }
+    ensures greeted { (w : PlainWorld) (l : ℕ) (lost : Option ℕ) (mark : Mark) → Conversation w → l < length w.pairs → state_at w.sender l ≡ states.ReadLocalCheckpoint
+        → (past_at w.sender l).claims.closed ≡ None → is_failure w.sender.answer ≡ false → (pair_at w l).send ≡ SendHas (inputs.Got (frames.Greeting mark))
+        → FitsIn (inputs.Got (frames.Greeting mark)) → Conversation (send_steps w l lost) }
 {
     senders_stay_senders();
 }
@@ -51,31 +58,59 @@ pub fn a_lane_takes_up_its_connection()
 /// A sender's lane takes a block, and writes it, whole or until the source fails; or no block waits, and it says
 /// that nothing more is to come, which is answered by a word to wait.
 pub fn a_lane_sends_its_blocks()
-    ensures claims { (w : PlainWorld) (l : ℕ) (lost : Option ℕ) (b : Block) → Conversation w → l < length w.pairs → state_at w.sender l ≡ states.SendSize → (past_at w.sender l).claims.closed ≡ None → is_failure w.sender.answer ≡ false → (pair_at w l).send ≡ SendHas inputs.Wrote → least_queued w.sender ≡ Some b → ((common w.receiver).finish ≡ true → ⊥) → Conversation (send_steps w l lost) }
-    ensures writes { (w : PlainWorld) (l : ℕ) (lost : Option ℕ) (header : Header) → Conversation w → l < length w.pairs → state_at w.sender l ≡ states.SendBlocks → (pair_at w l).send ≡ SendDoes (acts.SendBlock header) → Conversation (send_steps w l lost) }
-    ensures fails { (w : PlainWorld) (l : ℕ) (lost : Option ℕ) (unwritten : Bool) → Conversation w → l < length w.pairs → state_at w.sender l ≡ states.SendBlocks → (past_at w.sender l).claims.closed ≡ None → (past_at w.sender l).is_acked ≡ false → is_failure w.sender.answer ≡ false → (pair_at w l).send ≡ SendHas (inputs.SourceLost unwritten) → Conversation (send_steps w l lost) }
-    ensures empties { (w : PlainWorld) (l : ℕ) (lost : Option ℕ) → Conversation w → l < length w.pairs → state_at w.sender l ≡ states.SendSize → (past_at w.sender l).claims.closed ≡ None → is_failure w.sender.answer ≡ false → (pair_at w l).send ≡ SendHas inputs.Wrote → least_queued w.sender ≡ None → Conversation (send_steps w l lost) }
-    ensures concludes { (w : PlainWorld) (l : ℕ) (lost : Option ℕ) → Conversation w → l < length w.pairs → state_at w.sender l ≡ states.SendDone → (past_at w.sender l).claims.closed ≡ None → is_failure w.sender.answer ≡ false → (pair_at w l).send ≡ SendHas inputs.Wrote → Conversation (send_steps w l lost) }
-    ensures waits { (w : PlainWorld) (l : ℕ) (lost : Option ℕ) → Conversation w → l < length w.pairs → state_at w.sender l ≡ states.ReadReceiverCmd → (past_at w.sender l).claims.closed ≡ None → is_failure w.sender.answer ≡ false → (pair_at w l).send ≡ SendHas (inputs.Got frames.Wait) → Conversation (send_steps w l lost) }
+    ensures claims { (w : PlainWorld) (l : ℕ) (lost : Option ℕ) (b : Block) → Conversation w → l < length w.pairs → state_at w.sender l ≡ states.SendSize
+        → (past_at w.sender l).claims.closed ≡ None → is_failure w.sender.answer ≡ false → (pair_at w l).send ≡ SendHas inputs.Wrote
+        → least_queued w.sender ≡ Some b → ((common w.receiver).finish ≡ true → ⊥) → Conversation (send_steps w l lost) }
+    ensures writes { (w : PlainWorld) (l : ℕ) (lost : Option ℕ) (header : Header) → Conversation w → l < length w.pairs → state_at w.sender l ≡ states.SendBlocks
+        → (pair_at w l).send ≡ SendDoes (acts.SendBlock header) → Conversation (send_steps w l lost) }
+    ensures fails { (w : PlainWorld) (l : ℕ) (lost : Option ℕ) (unwritten : Bool) → Conversation w → l < length w.pairs → state_at w.sender l ≡ states.SendBlocks
+        → (past_at w.sender l).claims.closed ≡ None → (past_at w.sender l).is_acked ≡ false → is_failure w.sender.answer ≡ false
+        → (pair_at w l).send ≡ SendHas (inputs.SourceLost unwritten) → Conversation (send_steps w l lost) }
+    ensures empties { (w : PlainWorld) (l : ℕ) (lost : Option ℕ) → Conversation w → l < length w.pairs → state_at w.sender l ≡ states.SendSize
+        → (past_at w.sender l).claims.closed ≡ None → is_failure w.sender.answer ≡ false → (pair_at w l).send ≡ SendHas inputs.Wrote
+        → least_queued w.sender ≡ None → Conversation (send_steps w l lost) }
+    ensures concludes { (w : PlainWorld) (l : ℕ) (lost : Option ℕ) → Conversation w → l < length w.pairs → state_at w.sender l ≡ states.SendDone
+        → (past_at w.sender l).claims.closed ≡ None → is_failure w.sender.answer ≡ false → (pair_at w l).send ≡ SendHas inputs.Wrote
+        → Conversation (send_steps w l lost) }
+    ensures waits { (w : PlainWorld) (l : ℕ) (lost : Option ℕ) → Conversation w → l < length w.pairs → state_at w.sender l ≡ states.ReadReceiverCmd
+        → (past_at w.sender l).claims.closed ≡ None → is_failure w.sender.answer ≡ false → (pair_at w l).send ≡ SendHas (inputs.Got frames.Wait)
+        → Conversation (send_steps w l lost) }
 {
     senders_stay_senders();
 }
 
+/// What a sender's lane writes of itself, of all that is sent, as its last word and of a failure is a move of
+/// its phase there, or told behind the others, on the taken connection and on one that waits.
+pub fn what_is_written_is_a_move()
+    ensures settings { (w : PlainWorld) (l : ℕ) (lost : Option ℕ) (settings : Settings) → Conversation w → l < length w.pairs → state_at w.sender l ≡ states.SendSettings
+        → (pair_at w l).send ≡ SendDoes (acts.Write (frames.Settings settings)) → settings.ask ≡ (lane_at w.sender l).ask → Conversation (send_steps w l lost) }
+    ensures size { (w : PlainWorld) (l : ℕ) (lost : Option ℕ) (files bytes : ℕ) → Conversation w → l < length w.pairs → state_at w.sender l ≡ states.SendSize
+        → (pair_at w l).send ≡ SendDoes (acts.Write (frames.Size files bytes)) → Conversation (send_steps w l lost) }
+    ensures done { (w : PlainWorld) (l : ℕ) (lost : Option ℕ) → Conversation w → l < length w.pairs → state_at w.sender l ≡ states.SendDone
+        → (pair_at w l).send ≡ SendDoes (acts.Write frames.Done) → Conversation (send_steps w l lost) }
+    ensures abort { (w : PlainWorld) (l : ℕ) (lost : Option ℕ) (code : ℕ) → Conversation w → l < length w.pairs → state_at w.sender l ≡ states.SendAbort
+        → (pair_at w l).send ≡ SendDoes (acts.Write (frames.Abort code)) → Conversation (send_steps w l lost) }
+{}
+
 /// A sender's lane that reads is given the frame at the front, which leads to a phase or tells of a failure; or
 /// that its connection is lost; or nothing changes.
 pub fn what_is_read_is_understood()
-    ensures { (w : PlainWorld) (l : ℕ) (lost : Option ℕ) → Conversation w → l < length w.pairs → is_reading (state_at w.sender l) ≡ true → (pair_at w l).send ≡ SendDoes acts.Read → Conversation (send_steps w l lost) }
+    ensures { (w : PlainWorld) (l : ℕ) (lost : Option ℕ) → Conversation w → l < length w.pairs → is_reading (state_at w.sender l) ≡ true
+        → (pair_at w l).send ≡ SendDoes acts.Read → Conversation (send_steps w l lost) }
 {}
 
 /// A connection may be cut at any time, and the receiver's lane may take the next one.
 pub fn connections_are_cut_and_taken()
     ensures cut { (w : PlainWorld) (l down up : ℕ) → Conversation w → l < length w.pairs → Conversation (happens w (Cut l down up)) }
-    ensures taken { (w : PlainWorld) (l : ℕ) → Conversation w → l < length w.pairs → recv.state_at w.receiver l ≡ recv_states.Listen → (pair_at w l).recv ≡ RecvDoes recv_acts.Accept → Conversation (recv_steps w l None) }
+    ensures taken { (w : PlainWorld) (l : ℕ) → Conversation w → l < length w.pairs → recv.state_at w.receiver l ≡ recv_states.Listen
+        → (pair_at w l).recv ≡ RecvDoes recv_acts.Accept → Conversation (recv_steps w l None) }
 {}
 
 /// The last piece of a block lands it.
 pub fn blocks_land()
-    ensures { (w : PlainWorld) (l n : ℕ) (b : Block) → Conversation w → l < length w.pairs → recv.state_at w.receiver l ≡ recv_states.TakeBlock → is_failure w.receiver.answer ≡ false → (pair_at w l).recv ≡ RecvTook n → (recv.lane_at w.receiver l).left - n ≡ 0 → (recv.past_at w.receiver l).begun ≡ Some b → Conversation (recv_steps w l None) }
+    ensures { (w : PlainWorld) (l n : ℕ) (b : Block) → Conversation w → l < length w.pairs → recv.state_at w.receiver l ≡ recv_states.TakeBlock
+        → is_failure w.receiver.answer ≡ false → (pair_at w l).recv ≡ RecvTook n → (recv.lane_at w.receiver l).left - n ≡ 0
+        → (recv.past_at w.receiver l).begun ≡ Some b → Conversation (recv_steps w l None) }
 {
     receivers_stay_receivers();
 }
@@ -83,20 +118,29 @@ pub fn blocks_land()
 /// Where a lane reads that nothing more is to come, and the receiver is ready for the finish with it, no block
 /// waits at the sender, and each lane has landed all that it claimed, and holds no block.
 pub fn the_finish_is_right()
-    ensures empty { (w : PlainWorld) (l : ℕ) → Conversation w → Finishing w → l < length w.pairs → recv.state_at w.receiver l ≡ recv_states.ReadNextCmd → (recv.lane_at w.receiver l).is_sized ≡ true → (pair_at w l).recv ≡ RecvHas (Got frames.Done) → is_failure w.receiver.answer ≡ false → is_ready (length w.receiver.lanes) (w.receiver.history ++ Idle (number l) ∷ []) ≡ true → waiting_blocks w.sender ≡ [] }
-    ensures landed { (w : PlainWorld) (l k : ℕ) → Conversation w → Finishing w → l < length w.pairs → recv.state_at w.receiver l ≡ recv_states.ReadNextCmd → (recv.lane_at w.receiver l).is_sized ≡ true → (pair_at w l).recv ≡ RecvHas (Got frames.Done) → is_failure w.receiver.answer ≡ false → is_ready (length w.receiver.lanes) (w.receiver.history ++ Idle (number l) ∷ []) ≡ true → k < length w.pairs → Splits (sending w.sender k).kept (receiving w.receiver k).landed [] × ((past_at w.sender k).claims.held ≡ false) }
+    ensures empty { (w : PlainWorld) (l : ℕ) → Conversation w → Finishing w → l < length w.pairs → recv.state_at w.receiver l ≡ recv_states.ReadNextCmd
+        → (recv.lane_at w.receiver l).is_sized ≡ true → (pair_at w l).recv ≡ RecvHas (Got frames.Done) → is_failure w.receiver.answer ≡ false
+        → is_ready (length w.receiver.lanes) (w.receiver.history ++ Idle (number l) ∷ []) ≡ true → waiting_blocks w.sender ≡ [] }
+    ensures landed { (w : PlainWorld) (l k : ℕ) → Conversation w → Finishing w → l < length w.pairs → recv.state_at w.receiver l ≡ recv_states.ReadNextCmd
+        → (recv.lane_at w.receiver l).is_sized ≡ true → (pair_at w l).recv ≡ RecvHas (Got frames.Done) → is_failure w.receiver.answer ≡ false
+        → is_ready (length w.receiver.lanes) (w.receiver.history ++ Idle (number l) ∷ []) ≡ true → k < length w.pairs
+        → Splits (sending w.sender k).kept (receiving w.receiver k).landed [] × ((past_at w.sender k).claims.held ≡ false) }
 {
     histories_are_sound();
 }
 
 /// At each lane an end can move, or the receiver waits for other lanes, or both ends have stopped.
 pub fn one_end_can_move()
-    ensures { (sender receiver : Stance) (send : SendState) (receive : RecvState) (s : SendHold) (r : RecvHold) (taken : Option Link) (between : List Link) (newest : Option Link) (denies refusals : ℕ) → Agrees sender receiver taken between newest → Holds sender receiver send receive record { send = s; recv = r; taken = taken; between = between; newest = newest; denies = denies; refusals = refusals } → Moves record { send = s; recv = r; taken = taken; between = between; newest = newest; denies = denies; refusals = refusals } }
+    ensures { (sender receiver : Stance) (send : SendState) (receive : RecvState) (s : SendHold) (r : RecvHold) (taken : Option Link) (between : List Link) (newest : Option Link) (denies refusals : ℕ)
+        → Agrees sender receiver taken between newest
+        → Holds sender receiver send receive record { send = s; recv = r; taken = taken; between = between; newest = newest; denies = denies; refusals = refusals }
+        → Moves record { send = s; recv = r; taken = taken; between = between; newest = newest; denies = denies; refusals = refusals } }
 {}
 
 /// What is read of bytes that were cut anywhere is the message at the front, exactly where it can be taken
 /// whole: of the receiver's frames, and of the sender's frames and pieces, whatever the blocks hold.
 pub fn what_is_read_was_written()
     ensures up { (sent : List Frame) (room : Option ℕ) → Each Fits sent → FrontUp (front size_up record { sent = sent; room = room }) (bytes_up record { sent = sent; room = room }) }
-    ensures down { (content : Header → List ℕ) (left : List ℕ) (sent : List Message) (room : Option ℕ) → FitsFront left sent → FrontDown content left (front size_down record { sent = sent; room = room }) (bytes_down content left record { sent = sent; room = room }) }
+    ensures down { (content : Header → List ℕ) (left : List ℕ) (sent : List Message) (room : Option ℕ) → FitsFront left sent
+        → FrontDown content left (front size_down record { sent = sent; room = room }) (bytes_down content left record { sent = sent; room = room }) }
 {}
