@@ -11,6 +11,7 @@ mod Opening
 mod Sending
 mod Hearing
 mod Writing
+mod RecvHearing
 mod Greeting
 mod Claims
 mod Blocks

@@ -1,5 +1,4 @@
 -- The receiver's lane reads a frame.
--- Of the step the lane's part stands here. A failure that is read, and the sender's reading, are as short.
 use Rattle.std.proofs.Common.{◌≡◌, ℕ, Bool, true, false, ◌||◌, List, [], ◌∷◌, ◌++◌, Option, Some, None, subst, sym, ap, ◌∙◌, refl}
 use Rattle.std.proofs.lemmas.Option.{same_Some}
 use Rattle.wdt_units.specs.declared.blocks.Header.{Header}
@@ -27,7 +26,7 @@ front_head {M} size (x ∷ ms) room m rest e = go (has_room room (size x)) e whe
   go false is = cc
 
 -- the receiver hears a frame that tells of no failure
-hears_down_one : (ss : Stance) (q : Phase) (f : Frame) (ds : List Message) (us : List Frame) → is_abort f ≡ false → OnLink ss (Talks q) (Framed f ∷ ds) us → (r : Phase) × (down q (Framed f) ≡ Some r) × OnLink ss (Talks r) ds us
+pub hears_down_one : (ss : Stance) (q : Phase) (f : Frame) (ds : List Message) (us : List Frame) → is_abort f ≡ false → OnLink ss (Talks q) (Framed f ∷ ds) us → (r : Phase) × (down q (Framed f) ≡ Some r) × OnLink ss (Talks r) ds us
 hears_down_one ss q f ds us calm a =
     let b = turned_on down up is_abort_down is_abort is_calm is_any one_talker ss (Talks q) (Framed f ∷ ds) us a in
     let h = hears_one up down is_abort is_abort_down is_any is_calm (turned_talker down up one_talker) q ss us ds (Framed f) b calm in
@@ -37,11 +36,11 @@ module _ (g : Common) (l : ℕ) (s : Sending) (r : Receiving) (sh : SendHold) (b
   abbrev at : RecvHold → Link → Option Link → Pair
   at rh k newest = record { send = sh; recv = rh; taken = Some k; between = between; newest = newest; denies = denies; refusals = refusals }
 
-  same_up : (k : Link) (rest : Way Message) (newest : Option Link) (rh rg : RecvHold) → upward_by newest (Some k) sh (RecvDoes recv_acts.Read) ≡ upward_by newest (Some record k { down = rest }) sh (RecvHas recv_inputs.Odd)
+  pub same_up : (k : Link) (rest : Way Message) (newest : Option Link) (rh rg : RecvHold) → upward_by newest (Some k) sh (RecvDoes recv_acts.Read) ≡ upward_by newest (Some record k { down = rest }) sh (RecvHas recv_inputs.Odd)
   same_up k rest None rh rg = refl
   same_up k rest (Some t) rh rg = refl
 
-  same_notes : (k : Link) (rest : Way Message) (newest : Option Link) → NotesBy s.lane.state sh s.past (top_by newest (Some k)) → NotesBy s.lane.state sh s.past (top_by newest (Some record k { down = rest }))
+  pub same_notes : (k : Link) (rest : Way Message) (newest : Option Link) → NotesBy s.lane.state sh s.past (top_by newest (Some k)) → NotesBy s.lane.state sh s.past (top_by newest (Some record k { down = rest }))
   same_notes k rest None n = n
   same_notes k rest (Some t) n = n
 

@@ -22,6 +22,7 @@ ghost use Rattle.wdt_receiver_fsm.specs.declared.events.RecvEvent.TheVariants.{I
 ghost use Rattle.wdt_receiver_fsm.specs.declared.inputs.RecvIn.TheVariants.{Got};
 ghost use Rattle.wdt_receiver_fsm.specs.declared.states.RecvState.TheVariants as recv_states;
 ghost use Rattle.wdt_receiver_fsm.specs.PlainReceiver as recv;
+ghost use Rattle.wdt_receiver_fsm.specs.Rows.{is_reading as receives_in};
 ghost use Rattle.wdt_receiver_fsm.specs.Ready.{is_ready};
 ghost use Rattle.wdt_pact.specs.Bytes.{FitsFront, FrontDown, FrontUp, bytes_down, bytes_up};
 ghost use Rattle.wdt_pact.specs.Conversation.{Conversation, common, receiving, sending};
@@ -92,11 +93,13 @@ pub fn what_is_written_is_a_move()
         → (pair_at w l).send ≡ SendDoes (acts.Write (frames.Abort code)) → Conversation (send_steps w l lost) }
 {}
 
-/// A sender's lane that reads is given the frame at the front, which leads to a phase or tells of a failure; or
-/// that its connection is lost; or nothing changes.
+/// A lane that reads is given the frame at the front, which leads to a phase or tells of a failure; or its
+/// connection is lost; or nothing changes.
 pub fn what_is_read_is_understood()
-    ensures { (w : PlainWorld) (l : ℕ) (lost : Option ℕ) → Conversation w → l < length w.pairs → is_reading (state_at w.sender l) ≡ true
+    ensures sends { (w : PlainWorld) (l : ℕ) (lost : Option ℕ) → Conversation w → l < length w.pairs → is_reading (state_at w.sender l) ≡ true
         → (pair_at w l).send ≡ SendDoes acts.Read → Conversation (send_steps w l lost) }
+    ensures receives { (w : PlainWorld) (l : ℕ) (broken : Option ℕ) → Conversation w → l < length w.pairs → receives_in (recv.state_at w.receiver l) ≡ true
+        → (pair_at w l).recv ≡ RecvDoes recv_acts.Read → Conversation (recv_steps w l broken) }
 {}
 
 /// A connection may be cut at any time, and the receiver's lane may take the next one.
