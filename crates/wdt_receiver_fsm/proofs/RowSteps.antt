@@ -14,7 +14,7 @@ use Rattle.wdt_receiver_fsm.specs.declared.inputs.RecvIn.{RecvIn}
 use Rattle.wdt_receiver_fsm.specs.declared.inputs.RecvIn.TheVariants as inputs
 use Rattle.wdt_receiver_fsm.specs.declared.states.RecvState.{RecvState}
 use Rattle.wdt_receiver_fsm.specs.declared.states.RecvState.TheVariants as states
-use Rattle.wdt_receiver_fsm.specs.Causes.{IsShort, Misspeaks}
+use Rattle.wdt_receiver_fsm.specs.Causes.{FallsShort, Misspeaks}
 use Rattle.wdt_receiver_fsm.specs.Frames.{short_fault}
 use Rattle.wdt_receiver_fsm.specs.Logging.{all_logged, all_logged_by, flush_by, flush_plan}
 use Rattle.wdt_receiver_fsm.specs.Outcomes.{ByDone, ByWait, ByWaking, Idles, Mistakes, NoFrame, NoPlace, OtherSize, Serves, WrongBlock, WrongSettings}
@@ -149,7 +149,7 @@ same_history t [] = refl
 same_history t (b ∷ bs) = refl
 
 -- at a ready finish that finds something else the step tells it, or a call of the flush failed
-short_ends : (r : PlainReceiver) (l : Lane) (put : Put) (kind : PeerKind) (Why : Type 0) (step : Step) → (short : IsShort r l put kind) → EndsIn Why (turn_plan r l put) step
+short_ends : (r : PlainReceiver) (l : Lane) (put : Put) (kind : PeerKind) (Why : Type 0) (step : Step) → (short : FallsShort r l put kind) → EndsIn Why (turn_plan r l put) step
     → (step ≡ tells_failure (failed short.idle answers.Disk) l) ⊎ (step ≡ tells_failure (failed (noted (record (all_logged short.idle) { history = r.history }) (events.Peer l kind ∷ [])) (answers.Peer kind)) l)
 short_ends r l put kind Why step short ends_in =
     let t : PlainReceiver = short.idle in
@@ -166,7 +166,7 @@ short_ends r l put kind Why step short ends_in =
         ∙ ap (λ (o : Option PeerKind). finishes_with r.history (all_logged short.idle) l row o) short.short
         ∙ ap (λ (b : Bool). by_voice b (leaves (failed (noted (record (all_logged short.idle) { history = r.history }) (events.Peer l kind ∷ [])) (answers.Peer kind)) l) (tells_failure (failed (noted (record (all_logged short.idle) { history = r.history }) (events.Peer l kind ∷ [])) (answers.Peer kind)) l)) voice)
 
-pub short_told : (r : PlainReceiver) (l : Lane) (put : Put) (kind : PeerKind) (step : Step) → IsShort r l put kind → EndsIn (Unit {0}) (turn_plan r l put) step → (step.1.answer ≡ answers.Peer kind) ⊎ (step.1.answer ≡ answers.Disk)
+pub short_told : (r : PlainReceiver) (l : Lane) (put : Put) (kind : PeerKind) (step : Step) → FallsShort r l put kind → EndsIn (Unit {0}) (turn_plan r l put) step → (step.1.answer ≡ answers.Peer kind) ⊎ (step.1.answer ≡ answers.Disk)
 short_told r l put kind step short ends_in = go (short_ends r l put kind (Unit {0}) step short ends_in)
   where
     go : (step ≡ tells_failure (failed short.idle answers.Disk) l) ⊎ (step ≡ tells_failure (failed (noted (record (all_logged short.idle) { history = r.history }) (events.Peer l kind ∷ [])) (answers.Peer kind)) l) → (step.1.answer ≡ answers.Peer kind) ⊎ (step.1.answer ≡ answers.Disk)

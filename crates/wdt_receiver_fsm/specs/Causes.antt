@@ -22,14 +22,14 @@ pub record Misspeaks (r : PlainReceiver) (l : Lane) (put : Put) (kind : PeerKind
   pub said : Mistakes r l state put kind
 
 -- the finish is ready with the lane idle, and something else is there than was to be sent
-pub record IsShort (r : PlainReceiver) (l : Lane) (put : Put) (kind : PeerKind) : Type 0 where
+pub record FallsShort (r : PlainReceiver) (l : Lane) (put : Put) (kind : PeerKind) : Type 0 where
   pub idle : PlainReceiver
   pub finishes : Finishes r l put idle
   pub short : short_after idle ≡ Some kind
 
 -- what the sender did wrong
 abbrev pub IsWrong : PlainReceiver → Lane → Put → PeerKind → Type 0
-IsWrong r l put kind = Misspeaks r l put kind ⊎ IsShort r l put kind
+IsWrong r l put kind = Misspeaks r l put kind ⊎ FallsShort r l put kind
 
 -- the lane reads that the sender has failed
 pub record HearsAbort (r : PlainReceiver) (l : Lane) (put : Put) (code : ℕ) : Type 0 where

@@ -16,7 +16,7 @@ ghost use Rattle.wdt_receiver_fsm.specs.declared.states.RecvLane.{RecvLane};
 ghost use Rattle.wdt_receiver_fsm.specs.declared.states.RecvState.{RecvState};
 ghost use Rattle.wdt_receiver_fsm.specs.declared.states.RecvState.TheVariants as states;
 ghost use Rattle.wdt_receiver_fsm.specs.Acts.{IsActOf, act_of};
-ghost use Rattle.wdt_receiver_fsm.specs.Causes.{Follows, IsShort, Misspeaks};
+ghost use Rattle.wdt_receiver_fsm.specs.Causes.{FallsShort, Follows, Misspeaks};
 ghost use Rattle.wdt_receiver_fsm.specs.Legal.{IsLegal, IsOff, IsSound, Terms};
 ghost use Rattle.wdt_receiver_fsm.specs.Outcomes.{Comes};
 ghost use Rattle.wdt_receiver_fsm.specs.Phases.{AsksPiece, FitsLane, StandsIn, is_named, phase_by, phase_heard, phase_taking, phase_with};
@@ -63,7 +63,7 @@ pub fn failures_have_causes()
     ensures follows { (r : PlainReceiver) (l : Lane) (put : Put) (step : Step) → EndsIn (Unit {0}) (turn_plan r l put) step → Follows r l put step.1 }
     ensures told { (r : PlainReceiver) (l : Lane) (put : Put) (kind : PeerKind) → Misspeaks r l put kind
         → turn_plan r l put ≡ ends (tells_failure (failed (noted r (events.Peer l kind ∷ [])) (answers.Peer kind)) l) }
-    ensures short { (r : PlainReceiver) (l : Lane) (put : Put) (kind : PeerKind) (step : Step) → IsShort r l put kind → EndsIn (Unit {0}) (turn_plan r l put) step
+    ensures short { (r : PlainReceiver) (l : Lane) (put : Put) (kind : PeerKind) (step : Step) → FallsShort r l put kind → EndsIn (Unit {0}) (turn_plan r l put) step
         → (step.1.answer ≡ answers.Peer kind) ⊎ (step.1.answer ≡ answers.Disk) }
 {}
 
@@ -137,7 +137,8 @@ pub fn a_receiver_speaks_in_turn()
 /// What landed adds up: block for block it is what is logged of it and then what isn't, of which an end that
 /// hasn't failed has less than a batch behind each end of each step. Once all that landed is logged, the log
 /// names and covers what is there: after the finish, it does. Behind blocks that landed, each one's file is named,
-/// an empty one's, too, and each of its positions is there. That what is still to be logged continues the log is asked of the caller.
+/// an empty one's, too, and each of its positions is there. That what is still to be logged continues the log
+/// is asked of the caller.
 pub fn batches_add_up()
     ensures begins { (log : Meaning) (batch n : ℕ) → IsTrue (is_view log.files) → 0 < batch → IsBatched (opened log batch (replicate n new_lane)) }
     ensures keeps { (r : PlainReceiver) (l : Lane) (put : Put) (step : Step) → IsBatched r → CanLog r l put → EndsIn (Unit {0}) (turn_plan r l put) step → IsBatched step.1 }
