@@ -12,6 +12,7 @@ mod Sending
 mod Hearing
 mod Writing
 mod RecvHearing
+mod Taking
 mod Greeting
 mod Claims
 mod Blocks

@@ -19,15 +19,15 @@ use Rattle.wdt_receiver_fsm.specs.PlainReceiver.{state_at}
 use Rattle.wdt_receiver_fsm.specs.Rows.{is_reading}
 use Rattle.wdt_pact.specs.Each.{Each}
 use Rattle.wdt_pact.specs.Links.{Link, Way, front, is_cut, size_down}
-use Rattle.wdt_pact.specs.Pairs.{SendHold, RecvHold, RecvDoes, RecvHas, Pair, recv_does, recv_reads, recv_reads_by, send_left, top_by}
+use Rattle.wdt_pact.specs.Pairs.{SendHold, RecvHold, RecvDoes, RecvHas, Pair, recv_does, recv_reads, recv_reads_by, send_left}
 use Rattle.wdt_pact.specs.World.{PlainWorld, pair_at, recv_steps, recv_steps_by}
 use Rattle.wdt_pact.specs.Stances.{Stance, Talks, Aborts, Silent, Agrees, OnLink, is_abort_down, is_any, is_calm, recv_stance, send_stance, send_there, stand}
 use Rattle.wdt_pact.specs.Lists.{AskedBy, ListsBy, Splits-same, UnsentBy, begun_heads, blocks_in, flying, in_hand}
-use Rattle.wdt_pact.specs.Conversation.{AllTell, Common, Conversation, Converses, HeardDown, IsIdle, IsNoMarks, IsWord, Pieces, Receiving, Sending, Tells, common, is_recv_out, receiving, send_in_hand, sending, to_say, upward_by}
+use Rattle.wdt_pact.specs.Conversation.{AllTell, Common, Conversation, Converses, HeardDown, IsIdle, IsWord, Pieces, Receiving, Sending, Tells, common, is_recv_out, receiving, send_in_hand, sending, to_say, upward_by}
 use Rattle.wdt_pact.proofs.Below.{if_has, one_talker, turned_talker}
 use Rattle.wdt_pact.proofs.Frame.{pair_keeps}
 use Rattle.wdt_pact.proofs.Links.{falls_silent, turned_on}
-use Rattle.wdt_pact.proofs.Reading.{front_head, reads_here, same_notes, same_up}
+use Rattle.wdt_pact.proofs.Reading.{front_head, reads_here, same_notes}
 
 -- ---- the receiver falls silent
 

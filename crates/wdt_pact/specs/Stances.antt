@@ -33,6 +33,13 @@ abbrev pub send_aborts : SendState → Bool
 send_aborts states.SendAbort = true
 send_aborts _ = false
 
+-- the sender's lane has a connection, and isn't about to say so
+abbrev pub has_link : SendState → Bool
+has_link states.Connect = false
+has_link states.SendAbort = false
+has_link states.Ended = false
+has_link _ = true
+
 -- how the sender's lane stands; where the source failed before anything of a block was written, it is to say so
 abbrev pub send_stance : SendLane → Bool → SendHold → Stance
 send_stance lane acked (SendDoes act) = stand (send_aborts lane.state) (phase_of lane acked)

@@ -12,6 +12,7 @@ ghost use Rattle.wdt_codec.specs.declared.frames.Settings.{Settings};
 ghost use Rattle.wdt_sender_fsm.specs.declared.acts.SendAct.TheVariants as acts;
 ghost use Rattle.wdt_sender_fsm.specs.declared.inputs.SendIn.TheVariants as inputs;
 ghost use Rattle.wdt_sender_fsm.specs.declared.states.SendState.TheVariants as states;
+ghost use Rattle.wdt_pact.specs.Stances.{has_link};
 ghost use Rattle.wdt_sender_fsm.specs.PlainSender.{lane_at, least_queued, past_at, state_at, waiting_blocks};
 ghost use Rattle.wdt_sender_fsm.specs.Phases.{Message};
 ghost use Rattle.wdt_sender_fsm.specs.Rows.{is_reading};
@@ -102,6 +103,14 @@ pub fn what_is_read_is_understood()
         → (pair_at w l).recv ≡ RecvDoes recv_acts.Read → Conversation (recv_steps w l broken) }
 {}
 
+/// A lane that loses its connection dials again, or is given up where its counts are used up.
+pub fn a_lost_connection_is_made_again()
+    ensures { (w : PlainWorld) (l : ℕ) (lost : Option ℕ) (state : SendState) → Conversation w → l < length w.pairs → has_link state ≡ true → state_at w.sender l ≡ state
+        → (past_at w.sender l).claims.closed ≡ None → is_failure w.sender.answer ≡ false → (pair_at w l).send ≡ SendHas inputs.Lost → Conversation (send_steps w l lost) }
+{
+    senders_stay_senders();
+}
+
 /// A connection may be cut at any time, and the receiver's lane may take the next one.
 pub fn connections_are_cut_and_taken()
     ensures cut { (w : PlainWorld) (l down up : ℕ) → Conversation w → l < length w.pairs → Conversation (happens w (Cut l down up)) }
@@ -109,9 +118,11 @@ pub fn connections_are_cut_and_taken()
         → (pair_at w l).recv ≡ RecvDoes recv_acts.Accept → Conversation (recv_steps w l None) }
 {}
 
-/// The last piece of a block lands it.
+/// A piece of a block is taken from the front, or the connection is lost; and the last piece lands the block.
 pub fn blocks_land()
-    ensures { (w : PlainWorld) (l n : ℕ) (b : Block) → Conversation w → l < length w.pairs → recv.state_at w.receiver l ≡ recv_states.TakeBlock
+    ensures taken { (w : PlainWorld) (l wanted : ℕ) (broken : Option ℕ) → Conversation w → l < length w.pairs → recv.state_at w.receiver l ≡ recv_states.TakeBlock
+        → (pair_at w l).recv ≡ RecvDoes (recv_acts.TakePiece wanted) → Conversation (recv_steps w l broken) }
+    ensures landed { (w : PlainWorld) (l n : ℕ) (b : Block) → Conversation w → l < length w.pairs → recv.state_at w.receiver l ≡ recv_states.TakeBlock
         → is_failure w.receiver.answer ≡ false → (pair_at w l).recv ≡ RecvTook n → (recv.lane_at w.receiver l).left - n ≡ 0
         → (recv.past_at w.receiver l).begun ≡ Some b → Conversation (recv_steps w l None) }
 {
