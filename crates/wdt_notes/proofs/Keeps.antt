@@ -1,6 +1,5 @@
 -- What notes keep is what the history says, behind each entry.
-use Rattle.std.proofs.Common.{◌≡◌, ◌≢◌, ◌⊎◌, ℕ, zero, suc, ◌+◌, ◌<◌, ◌≤◌, ◌==◌, ◌&&◌, ◌||◌, not, Bool, true, false, List, [], ◌∷◌, ◌++◌, length, replicate, Option, Some, None, inl, inr, refl, sym, ap, subst, ◌∙◌, arith}
-use Rattle.std.proofs.lemmas.Bool.{eq-eqb, ne_eqb}
+use Rattle.std.proofs.Common.{◌≡◌, ◌⊎◌, ℕ, zero, suc, ◌<◌, ◌≤◌, ◌&&◌, Bool, true, false, List, [], ◌∷◌, ◌++◌, replicate, Option, Some, None, inl, inr, refl, sym, ap, subst, ◌∙◌, arith}
 use Rattle.wdt_units.specs.declared.limits.TheConstants.{MAX_LANES}
 use Rattle.wdt_units.specs.declared.numbers.Lane.{Lane}
 use Rattle.wdt_funnel.specs.Barrier.{Barrier, after, barrier_from, barrier_of, is_open, no_barrier, untold}
@@ -10,14 +9,14 @@ use Rattle.wdt_sender_fsm.specs.Rules.{every}
 use Rattle.wdt_receiver_fsm.specs.declared.events.RecvEvent.{RecvEvent}
 use Rattle.wdt_receiver_fsm.specs.declared.events.RecvEvent.TheVariants as events
 use Rattle.wdt_receiver_fsm.specs.Ready as words
-use Rattle.wdt_receiver_fsm.specs.ReceiverHistory.{EndPast, RecvPast, end_of, end_of-append, end_of-none, is_closed_after, lane_of, past_of, past_of-append, past_of-none}
+use Rattle.wdt_receiver_fsm.specs.ReceiverHistory.{EndPast, end_of, end_of-append, end_of-none, lane_of}
 use Rattle.wdt_receiver_fsm.specs.Sets.{set_of}
 use Rattle.wdt_notes.specs.declared.common.Common.{Common}
 use Rattle.wdt_notes.specs.declared.tally.Tally.{Tally}
 use Rattle.wdt_notes.specs.Happened.{happening_of, happenings_of}
 use Rattle.wdt_notes.specs.Kept.{AreWithin, CanCount, CanPass, IsKept, TellsAll, counted_in, noted_in, tally_at}
 use Rattle.wdt_notes.specs.Notable.{IsWithin, KeepsLimits, MayNote}
-use Rattle.wdt_notes.specs.Tallies.{IsTally, no_tally, tally_of}
+use Rattle.wdt_notes.specs.Tallies.{no_tally}
 use Rattle.wdt_notes.proofs.Sets.{on_of, untold_set}
 use Rattle.wdt_notes.proofs.Tallying.{can_count, many-more, tallied-more, tallied_none, tallies-more, tally_none}
 use Rattle.wdt_notes.proofs.Words as own
@@ -91,8 +90,10 @@ module _ {n : ℕ} {ts : List Tally} {b : Barrier} {c : Common} {g : List RecvEv
   -- as it would be if a lane became idle
   pub ready_with : (l : Lane) → l.0 < n → is_open (after b (Idled l.0)) ≡ words.is_ready n (g ++ events.Idle l ∷ [])
   ready_with l lt =
-      ap (λ (x : Barrier). is_open (after x (Idled l.0))) kept.barrier ∙ ap is_open (sym (barriers.goes_on n (happenings_of g) (Idled l.0 ∷ [])) ∙ ap (barrier_of n) (sym (own.happenings-more g (events.Idle l))))
-      ∙ barriers.ready_of n (happenings_of (g ++ events.Idle l ∷ [])) kept.few (on_of n (g ++ events.Idle l ∷ []) (within-more n g (events.Idle l) kept.within lt)) ∙ own.ready_of n (g ++ events.Idle l ∷ []) kept.few
+      ap (λ (x : Barrier). is_open (after x (Idled l.0))) kept.barrier
+      ∙ ap is_open (sym (barriers.goes_on n (happenings_of g) (Idled l.0 ∷ [])) ∙ ap (barrier_of n) (sym (own.happenings-more g (events.Idle l))))
+      ∙ barriers.ready_of n (happenings_of (g ++ events.Idle l ∷ [])) kept.few (on_of n (g ++ events.Idle l ∷ []) (within-more n g (events.Idle l) kept.within lt))
+      ∙ own.ready_of n (g ++ events.Idle l ∷ []) kept.few
 
 new_at : (m l : ℕ) → tally_at (replicate m no_tally) l ≡ no_tally
 new_at zero l = refl

@@ -1,5 +1,5 @@
 -- The untold lanes of a funnel as a set.
-use Rattle.std.proofs.Common.{◌≡◌, ◌≢◌, ◌⊎◌, inl, inr, ℕ, zero, suc, ◌+◌, ◌<◌, ◌≤◌, ◌^◌, ◌==◌, ◌&&◌, ◌||◌, not, nat_lt, Bool, true, false, List, [], ◌∷◌, ◌++◌, length, length-append, filter, map, if◌then◌else◌, append-nil, add-one, refl, sym, ap, subst, ◌∙◌, arith}
+use Rattle.std.proofs.Common.{◌≡◌, ◌≢◌, ◌⊎◌, inl, inr, ℕ, zero, suc, ◌+◌, ◌<◌, ◌≤◌, ◌^◌, ◌==◌, ◌&&◌, ◌||◌, not, nat_lt, Bool, true, false, List, [], ◌∷◌, ◌++◌, length, length-append, filter, map, if◌then◌else◌, append-nil, add-one, refl, sym, ap, ◌∙◌, arith}
 use Rattle.std.specs.Int.{bit_at}
 use Rattle.std.proofs.lemmas.Bool.{eq-eqb, ne_eqb}
 use Rattle.std.proofs.lemmas.Bool.Decides.{nat_tests}
@@ -8,7 +8,7 @@ use Rattle.std.proofs.lemmas.List.Elements.{filter-append}
 use Rattle.std.proofs.lemmas.Nat.Bits.{bit_at-lt, same_from_bits_below}
 use Rattle.wdt_units.specs.declared.limits.TheConstants.{MAX_LANES}
 use Rattle.wdt_units.specs.declared.numbers.LaneSet.{LaneSet}
-use Rattle.wdt_units.specs.LaneSets.{has_lane, lanes_with, no_lanes, only_lane}
+use Rattle.wdt_units.specs.LaneSets.{has_lane, only_lane}
 use Rattle.wdt_units.proofs.LaneSetLaws.{in_none, in_only, in_with, only_fits, with_fits, without_fits}
 use Rattle.wdt_codec.specs.declared.frames.Mark.{Mark}
 use Rattle.wdt_funnel.specs.Barrier.{Barrier, after, barrier_from, barrier_of, no_barrier, untold}
@@ -20,7 +20,7 @@ use Rattle.wdt_receiver_fsm.specs.PlainReceiver.{mark_of}
 use Rattle.wdt_receiver_fsm.specs.Ready as words
 use Rattle.wdt_receiver_fsm.specs.ReceiverHistory.{past_of}
 use Rattle.wdt_receiver_fsm.specs.Sets.{has, numbers, set_of}
-use Rattle.wdt_notes.specs.Happened.{happening_of, happenings_of}
+use Rattle.wdt_notes.specs.Happened.{happenings_of}
 use Rattle.wdt_notes.specs.Kept.{AreWithin}
 use Rattle.wdt_notes.proofs.Words.{has_filter, is_below, says_of, untold_of}
 
@@ -169,7 +169,8 @@ fewer_of p (suc k) l lt none = go (last_or_less l k lt) (λ less. fewer_of p k l
     go (inr less) before = omega (arith, parts p k, before less, at_most (p k) k)
 
 -- a lane that is open tells of fewer than all others, as long as one more is untold
-pub few_untold : (n : ℕ) (g : List RecvEvent) (l k : ℕ) → n ≤ MAX_LANES → l < n → k < n → words.is_closed g l ≡ false → words.is_untold g l k ≡ true → length (filter (words.is_untold g l) (numbers k)) < 15
+pub few_untold : (n : ℕ) (g : List RecvEvent) (l k : ℕ) → n ≤ MAX_LANES → l < n → k < n → words.is_closed g l ≡ false → words.is_untold g l k ≡ true
+    → length (filter (words.is_untold g l) (numbers k)) < 15
 few_untold n g l k few lt in_range still_open told = elim (split l k) [
   | inl less ↦ omega (arith, fewer_of (words.is_untold g l) k l less not_own, in_range, few)
   | inr more ↦ omega (arith, few_of (words.is_untold g l) k, apart, more, lt, few)
@@ -198,7 +199,8 @@ pub mark_is : (g : List RecvEvent) (k count : ℕ) → count ≡ length (past_of
 unfolding mark_of
 mark_is g k count e = ap (λ (n : ℕ). let m : Mark = record { lane = record { 0 = k }; count = n } in m) e
 
-pub marks_more : (g : List RecvEvent) (p : ℕ → Bool) (k : ℕ) (m : Mark) (marks : List Mark) → p k ≡ true → m ≡ mark_of g k → marks ≡ map (mark_of g) (filter p (numbers k)) → marks ++ m ∷ [] ≡ map (mark_of g) (filter p (numbers (k + 1)))
+pub marks_more : (g : List RecvEvent) (p : ℕ → Bool) (k : ℕ) (m : Mark) (marks : List Mark) → p k ≡ true → m ≡ mark_of g k → marks ≡ map (mark_of g) (filter p (numbers k))
+    → marks ++ m ∷ [] ≡ map (mark_of g) (filter p (numbers (k + 1)))
 marks_more g p k m marks passes is are =
     ap (λ (xs : List Mark). xs ++ m ∷ []) are ∙ ap (λ (x : Mark). map (mark_of g) (filter p (numbers k)) ++ x ∷ []) is ∙ sym (map-append (mark_of g) (filter p (numbers k)) (k ∷ []))
     ∙ ap (λ (xs : List ℕ). map (mark_of g) xs) (sym (more p k true passes))

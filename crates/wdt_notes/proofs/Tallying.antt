@@ -1,5 +1,5 @@
 -- A tally is what the past of its lane says, behind each entry.
-use Rattle.std.proofs.Common.{◌≡◌, ◌≢◌, ◌⊎◌, inl, inr, ℕ, ◌+◌, ◌<◌, ◌≤◌, ◌==◌, true, List, [], ◌∷◌, ◌++◌, length, length-append, slice_set, Option, Some, None, refl, sym, ap, subst, ◌∙◌, arith}
+use Rattle.std.proofs.Common.{◌≡◌, ◌≢◌, inl, inr, ℕ, ◌+◌, ◌<◌, List, [], ◌∷◌, ◌++◌, length, length-append, slice_set, Option, Some, None, refl, sym, ap, subst, ◌∙◌, arith}
 use Rattle.std.proofs.lemmas.Bool.{eq-eqb, ne_eqb}
 use Rattle.std.proofs.lemmas.Bool.Decides.{eqb_tells}
 use Rattle.std.proofs.lemmas.List.{get_or-set_same, get_or-set_other, length-set}
@@ -61,7 +61,8 @@ tally-more g e l = ap tally_of (past_of-append g (e ∷ []) l)
 abbrev pub AreTallied : List Tally → List RecvEvent → Type 0
 AreTallied tallies g = (l : ℕ) → l < MAX_LANES → tally_at tallies l ≡ tally_of (past_of g l)
 
-pub tallied-more : (tallies : List Tally) (g : List RecvEvent) (e : RecvEvent) (o : Option ℕ) → lane_of e ≡ o → length tallies ≡ MAX_LANES → IsWithin MAX_LANES o → AreTallied tallies g → AreTallied (counted_by o tallies e) (g ++ e ∷ [])
+pub tallied-more : (tallies : List Tally) (g : List RecvEvent) (e : RecvEvent) (o : Option ℕ) → lane_of e ≡ o → length tallies ≡ MAX_LANES → IsWithin MAX_LANES o → AreTallied tallies g
+    → AreTallied (counted_by o tallies e) (g ++ e ∷ [])
 tallied-more tallies g e None is many within are l lt = are l lt ∙ sym (tally-more g e l ∙ elsewhere e l (past_of g l) (λ some. none (sym is ∙ some)))
   where
     none : {k : ℕ} → None ≡ Some k → ⊥
@@ -111,7 +112,8 @@ stays_tally n g (events.Quit k) l is limits t = t
 stays_tally n g (events.Abort k code) l is limits t = t
 stays_tally n g (events.Peer k kind) l is limits t = t
 
-pub tallies-more : (n : ℕ) (g : List RecvEvent) (e : RecvEvent) → KeepsLimits n g e → ((l : ℕ) → l < MAX_LANES → IsTally (tally_of (past_of g l))) → (l : ℕ) → l < MAX_LANES → IsTally (tally_of (past_of (g ++ e ∷ []) l))
+pub tallies-more : (n : ℕ) (g : List RecvEvent) (e : RecvEvent) → KeepsLimits n g e → ((l : ℕ) → l < MAX_LANES → IsTally (tally_of (past_of g l))) → (l : ℕ) → l < MAX_LANES
+    → IsTally (tally_of (past_of (g ++ e ∷ []) l))
 tallies-more n g e limits are l lt = go (lane_of e) refl
   where
     go : (o : Option ℕ) → lane_of e ≡ o → IsTally (tally_of (past_of (g ++ e ∷ []) l))
@@ -130,7 +132,8 @@ tallies-more n g e limits are l lt = go (lane_of e) refl
         other ne = subst IsTally (sym (tally-more g e l ∙ elsewhere e l (past_of g l) (λ some. ne (same_Some _ _ (sym is ∙ some))))) (are l lt)
 
 -- an entry can be counted
-pub can_count : (n : ℕ) (tallies : List Tally) (g : List RecvEvent) (e : RecvEvent) (o : Option ℕ) → lane_of e ≡ o → length tallies ≡ MAX_LANES → IsWithin MAX_LANES o → KeepsLimits n g e → AreTallied tallies g
+pub can_count : (n : ℕ) (tallies : List Tally) (g : List RecvEvent) (e : RecvEvent) (o : Option ℕ) → lane_of e ≡ o → length tallies ≡ MAX_LANES → IsWithin MAX_LANES o → KeepsLimits n g e
+    → AreTallied tallies g
     → ((l : ℕ) → l < MAX_LANES → IsTally (tally_of (past_of g l))) → CanCountFor o tallies e
 can_count n tallies g e None is many within limits are tallied = tt
 can_count n tallies g e (Some l) is many within limits are tallied =

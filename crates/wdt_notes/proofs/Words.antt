@@ -1,8 +1,6 @@
 -- A funnel's words say of what happened what a receiver's history says.
-use Rattle.std.proofs.Common.{◌≡◌, ◌≢◌, ◌⊎◌, inl, inr, ℕ, zero, suc, ◌<◌, ◌≤◌, ◌==◌, ◌&&◌, ◌||◌, not, nat_lt, Bool, true, false, List, [], ◌∷◌, ◌++◌, filter, if◌then◌else◌, refl, sym, ap, subst, ◌∙◌, append_assoc, append-nil, eqb-true, arith}
-use Rattle.std.specs.List.{flat_map, list_any}
-use Rattle.std.proofs.lemmas.Bool.{eq-eqb, ne_eqb}
-use Rattle.std.proofs.lemmas.Bool.Decides.{eqb_tells, nat_tests}
+use Rattle.std.proofs.Common.{◌≡◌, ℕ, zero, suc, ◌<◌, ◌≤◌, ◌==◌, ◌&&◌, ◌||◌, not, nat_lt, Bool, true, false, List, [], ◌∷◌, ◌++◌, filter, if◌then◌else◌, refl, sym, ap, subst, ◌∙◌, append_assoc, append-nil, eqb-true, arith}
+use Rattle.std.proofs.lemmas.Bool.Decides.{nat_tests}
 use Rattle.std.proofs.lemmas.Grind.{flat_map-append}
 use Rattle.std.proofs.lemmas.List.Folds.{list_any-append}
 use Rattle.std.proofs.lemmas.Map.Views.{any-filter_same}
@@ -103,7 +101,8 @@ confirmed_more : (g : List RecvEvent) (e : RecvEvent) (c : ℕ) → is_confirmed
 confirmed_more g e c = ap (λ (s : Confirm). s.is_confirmed) (confirm_of-append g (e ∷ []) c)
 
 -- nothing happens
-still : (hs : List Happening) (g : List RecvEvent) (e : RecvEvent) → ((l : ℕ) (s : Bool) → is_idle_after l s e ≡ s) → ((l : ℕ) (s : Bool) → is_closed_after l s e ≡ s) → ((l : ℕ) (s : List ℕ) → told_after l s e ≡ s)
+still : (hs : List Happening) (g : List RecvEvent) (e : RecvEvent) → ((l : ℕ) (s : Bool) → is_idle_after l s e ≡ s) → ((l : ℕ) (s : Bool) → is_closed_after l s e ≡ s)
+    → ((l : ℕ) (s : List ℕ) → told_after l s e ≡ s)
     → ((c : ℕ) (s : List ℕ) → tellers_after c s e ≡ s) → ((ts : List ℕ) (s : Bool) → is_confirmed_after ts s e ≡ s) → Says hs g → Says (hs ++ []) (g ++ e ∷ [])
 still hs g e idle closed told tellers confirmed says = subst (λ (xs : List Happening). Says xs (g ++ e ∷ [])) (sym (append-nil hs)) record {
   idle = λ l. says.idle l ∙ sym (idle_more g e l ∙ idle l (is_idle g l));
@@ -120,13 +119,16 @@ idle_on hs g h l says = stands-more (idles l) (ends_idling l) hs h ∙ ap (λ (x
 closed_on : (hs : List Happening) (g : List RecvEvent) (h : Happening) (l : ℕ) → Says hs g → funnel.is_closed (hs ++ h ∷ []) l ≡ (is_closed g l || closes l h)
 closed_on hs g h l says = any-more (closes l) hs h ∙ ap (λ (x : Bool). x || closes l h) (says.closed l)
 
-told_on : (hs : List Happening) (g : List RecvEvent) (h : Happening) (l c : ℕ) → c < MAX_LANES → Says hs g → funnel.has_named (hs ++ h ∷ []) l c ≡ ((has (past_of g l).told c && not (takes l h)) || tells l c h)
+told_on : (hs : List Happening) (g : List RecvEvent) (h : Happening) (l c : ℕ) → c < MAX_LANES → Says hs g
+    → funnel.has_named (hs ++ h ∷ []) l c ≡ ((has (past_of g l).told c && not (takes l h)) || tells l c h)
 told_on hs g h l c lt says = stands-more (tells l c) (takes l) hs h ∙ ap (λ (x : Bool). (x && not (takes l h)) || tells l c h) (says.told l c lt)
 
-tellers_on : (hs : List Happening) (g : List RecvEvent) (h : Happening) (l c : ℕ) → c < MAX_LANES → Says hs g → funnel.is_telling (hs ++ h ∷ []) l c ≡ ((has (confirm_of g c).tellers l && not (ends_telling l h)) || tells l c h)
+tellers_on : (hs : List Happening) (g : List RecvEvent) (h : Happening) (l c : ℕ) → c < MAX_LANES → Says hs g
+    → funnel.is_telling (hs ++ h ∷ []) l c ≡ ((has (confirm_of g c).tellers l && not (ends_telling l h)) || tells l c h)
 tellers_on hs g h l c lt says = stands-more (tells l c) (ends_telling l) hs h ∙ ap (λ (x : Bool). (x && not (ends_telling l h)) || tells l c h) (says.tellers l c lt)
 
-unheard_on : (hs : List Happening) (g : List RecvEvent) (h : Happening) (c : ℕ) → c < MAX_LANES → funnel.is_heard (hs ++ h ∷ []) c ≡ (funnel.is_heard hs c || false) → Says hs g → funnel.is_heard (hs ++ h ∷ []) c ≡ is_confirmed g c
+unheard_on : (hs : List Happening) (g : List RecvEvent) (h : Happening) (c : ℕ) → c < MAX_LANES → funnel.is_heard (hs ++ h ∷ []) c ≡ (funnel.is_heard hs c || false) → Says hs g
+    → funnel.is_heard (hs ++ h ∷ []) c ≡ is_confirmed g c
 unheard_on hs g h c lt more says = more ∙ or_false (funnel.is_heard hs c) ∙ says.heard c lt
 
 -- told of nothing

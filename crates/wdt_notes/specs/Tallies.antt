@@ -1,5 +1,5 @@
 -- What is kept of a lane, read off its past.
-use Rattle.std.specs.Prelude.{ℕ, ◌+◌, ◌≤◌, true, false, List, length, Option, Some, None}
+use Rattle.std.specs.Prelude.{ℕ, ◌+◌, ◌≤◌, true, false, length, Option, Some, None}
 use Rattle.wdt_units.specs.declared.blocks.Block.{Block}
 use Rattle.wdt_units.specs.declared.limits.TheConstants.{MAX_BLOCKS, MAX_CONNECTIONS, MAX_TRIES}
 use Rattle.wdt_receiver_fsm.specs.declared.events.RecvEvent.{RecvEvent}

@@ -14,8 +14,14 @@ pub push-requires : goal.push-requires
 push-requires c =
     let few : c.args.self.now.lanes ≤ MAX_LANES = subst (λ (v : NotesView). v.lanes ≤ MAX_LANES) c.self.view_is c.self.invariant.few in
     let lt : c.loop-number.number < c.args.self.now.lanes = subst (λ (v : NotesView). c.loop-number.number < v.lanes) c.self.view_is c.loop-number-test.true in
-    let count : length c.loop-number.marks ≡ length (filter (is_untold c.args.self.now.history c.args.lane.0) (numbers c.loop-number.number)) = ap (λ (xs : List Mark). length xs) c.loop-number.invariant ∙ length-map (filter (is_untold c.args.self.now.history c.args.lane.0) (numbers c.loop-number.number)) (mark_of c.args.self.now.history) in
-    omega (arith, count, few_untold c.args.self.now.lanes c.args.self.now.history c.args.lane.0 c.loop-number.number few c.requires.lane lt c.requires.still_open (told_by c.untold-untold.result c.args.self.now.lanes c.args.self.now.history c.args.lane.0 c.loop-number.number _ lt c.untold-untold.ensures (sym c.has.ensures ∙ c.if-has.true)))
+    let count : length c.loop-number.marks ≡ length (filter (is_untold c.args.self.now.history c.args.lane.0) (numbers c.loop-number.number))
+    = ap (λ (xs : List Mark). length xs) c.loop-number.invariant ∙ length-map (filter (is_untold c.args.self.now.history c.args.lane.0) (numbers c.loop-number.number)) (mark_of c.args.self.now.history) in
+    omega (
+      arith,
+      count,
+      few_untold c.args.self.now.lanes c.args.self.now.history c.args.lane.0 c.loop-number.number few c.requires.lane lt c.requires.still_open
+          (told_by c.untold-untold.result c.args.self.now.lanes c.args.self.now.history c.args.lane.0 c.loop-number.number _ lt c.untold-untold.ensures (sym c.has.ensures ∙ c.if-has.true)),
+    )
 
 pub loop-number-preserved : goal.loop-number-preserved
 loop-number-preserved c =
