@@ -31,3 +31,6 @@ pub use mem_wire::MemWire;
 pub use owing::{alarms_behind, is_piece_slip, keep_block, next_place, path_room};
 pub use said::{Said, Saying};
 pub use wire::ByteWire;
+
+#[cfg(test)]
+mod tests;
