@@ -13,6 +13,7 @@ mod Hearing
 mod Writing
 mod RecvHearing
 mod Taking
+mod Sent
 mod Greeting
 mod Claims
 mod Blocks

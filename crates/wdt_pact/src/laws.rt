@@ -10,10 +10,11 @@ ghost use Rattle.wdt_codec.specs.declared.frames.Frame.TheVariants as frames;
 ghost use Rattle.wdt_codec.specs.declared.frames.Mark.{Mark};
 ghost use Rattle.wdt_codec.specs.declared.frames.Settings.{Settings};
 ghost use Rattle.wdt_sender_fsm.specs.declared.acts.SendAct.TheVariants as acts;
+ghost use Rattle.wdt_sender_fsm.specs.declared.events.SendEvent.TheVariants.{Sent};
 ghost use Rattle.wdt_sender_fsm.specs.declared.inputs.SendIn.TheVariants as inputs;
 ghost use Rattle.wdt_sender_fsm.specs.declared.states.SendState.TheVariants as states;
 ghost use Rattle.wdt_pact.specs.Stances.{has_link};
-ghost use Rattle.wdt_sender_fsm.specs.PlainSender.{lane_at, least_queued, past_at, state_at, waiting_blocks};
+ghost use Rattle.wdt_sender_fsm.specs.PlainSender.{lane_at, least_queued, noted, past_at, state_at, waiting_blocks};
 ghost use Rattle.wdt_sender_fsm.specs.Phases.{Message};
 ghost use Rattle.wdt_sender_fsm.specs.Rows.{is_reading};
 ghost use Rattle.wdt_sender_fsm.specs.Rules.{is_failure};
@@ -57,7 +58,7 @@ pub fn a_lane_takes_up_its_connection()
     senders_stay_senders();
 }
 
-/// A sender's lane takes a block, and writes it, whole or until the source fails; or no block waits, and it says
+/// A sender's lane takes a block, and writes it, whole or until the source fails, and takes the next; or no block waits, and it says
 /// that nothing more is to come, which is answered by a word to wait.
 pub fn a_lane_sends_its_blocks()
     ensures claims { (w : PlainWorld) (l : ℕ) (lost : Option ℕ) (b : Block) → Conversation w → l < length w.pairs → state_at w.sender l ≡ states.SendSize
@@ -65,6 +66,9 @@ pub fn a_lane_sends_its_blocks()
         → least_queued w.sender ≡ Some b → ((common w.receiver).finish ≡ true → ⊥) → Conversation (send_steps w l lost) }
     ensures writes { (w : PlainWorld) (l : ℕ) (lost : Option ℕ) (header : Header) → Conversation w → l < length w.pairs → state_at w.sender l ≡ states.SendBlocks
         → (pair_at w l).send ≡ SendDoes (acts.SendBlock header) → Conversation (send_steps w l lost) }
+    ensures next { (w : PlainWorld) (l : ℕ) (lost : Option ℕ) (b : Block) → Conversation w → l < length w.pairs → state_at w.sender l ≡ states.SendBlocks
+        → (past_at w.sender l).claims.closed ≡ None → is_failure w.sender.answer ≡ false → (pair_at w l).send ≡ SendHas inputs.Wrote
+        → least_queued (noted w.sender (Sent (number l) ∷ [])) ≡ Some b → ((common w.receiver).finish ≡ true → ⊥) → Conversation (send_steps w l lost) }
     ensures fails { (w : PlainWorld) (l : ℕ) (lost : Option ℕ) (unwritten : Bool) → Conversation w → l < length w.pairs → state_at w.sender l ≡ states.SendBlocks
         → (past_at w.sender l).claims.closed ≡ None → (past_at w.sender l).is_acked ≡ false → is_failure w.sender.answer ≡ false
         → (pair_at w l).send ≡ SendHas (inputs.SourceLost unwritten) → Conversation (send_steps w l lost) }
