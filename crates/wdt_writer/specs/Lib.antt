@@ -1,0 +1,3 @@
+pub mod OnWay
+pub mod PlainFiles
+pub mod PlainWriter

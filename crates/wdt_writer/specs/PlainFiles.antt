@@ -1,0 +1,24 @@
+-- The files that a writer knows, and which of them are named.
+use Rattle.std.specs.Prelude.{◌≡◌, ℕ, ◌≤◌, false, List, length, Option, Some, IsTrue}
+use Rattle.wdt_units.specs.declared.limits.TheConstants.{MAX_FILES, MAX_FILE_SIZE}
+use Rattle.wdt_units.specs.Path.{is_lawful, is_reserved}
+use Rattle.wdt_logfmt.specs.Beginning.{KnownFile, known_at}
+use Rattle.wdt_logfmt.specs.Landing.{IsAmong}
+use Rattle.wdt_logfmt.specs.View.{NamedFile, is_view}
+
+-- what is known of a named file
+abbrev pub known_of : NamedFile → KnownFile
+known_of f = record { path = f.have.path; size = f.have.size; stamp = f.have.stamp }
+
+-- the known files are as files are: a lawful path that isn't the receiver's own, each once, within the limits
+pub record AreFiles (known : List (Option KnownFile)) : Type 0 where
+  pub lawful : (number : ℕ) (file : KnownFile) → known_at known number ≡ Some file → IsTrue (is_lawful file.path)
+  pub free : (number : ℕ) (file : KnownFile) → known_at known number ≡ Some file → is_reserved file.path ≡ false
+  pub small : (number : ℕ) (file : KnownFile) → known_at known number ≡ Some file → file.size ≤ MAX_FILE_SIZE
+  pub once : (m n : ℕ) (f g : KnownFile) → known_at known m ≡ Some f → known_at known n ≡ Some g → f.path ≡ g.path → m ≡ n
+  pub few : length known ≤ MAX_FILES
+
+-- each named file is the known file of its number, and all of them are what a log can lead to
+pub record AreNamed (known : List (Option KnownFile)) (named : List NamedFile) : Type 0 where
+  pub view : IsTrue (is_view named)
+  pub known_as : (f : NamedFile) → IsAmong f named → known_at known f.number ≡ Some (known_of f)
