@@ -121,7 +121,7 @@ pub fn read_on<F: FileExt>(file: &F, offset: u64, into: &mut [u8]) -> io::Result
 }
 
 // Writes all the bytes from the offset on.
-pub fn write_on<F: FileExt>(file: &F, offset: u64, bytes: &[u8]) -> io::Result<()> {
+pub(crate) fn write_on<F: FileExt>(file: &F, offset: u64, bytes: &[u8]) -> io::Result<()> {
     let mut count = 0;
     for _ in 0..u64::MAX {
         if count >= bytes.len() {

@@ -1,3 +1,4 @@
+pub mod ForCallers
 pub mod Histories
 pub mod Keeps
 pub mod Readiness

@@ -7,7 +7,7 @@ use Rattle.std.proofs.lemmas.Option.{same_Some}
 use Rattle.wdt_units.specs.Have.{PlainSpan, is_in}
 use Rattle.wdt_units.specs.Tree.{File}
 use Rattle.wdt_ranges.specs.Spans.{end_of, has, is_span}
-use Rattle.wdt_ranges.proofs.Apart.{span_from}
+use Rattle.wdt_ranges.proofs.ForCallers.{span_from}
 use Rattle.wdt_depot.specs.Disk.{Image}
 use Rattle.wdt_logfmt.specs.declared.entry.LogEntry.{LogEntry}
 use Rattle.wdt_logfmt.specs.declared.entry.LogEntry.TheVariants.{File as Named, Covered}

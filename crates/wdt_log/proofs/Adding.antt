@@ -8,7 +8,7 @@ use Rattle.std.proofs.lemmas.List.{take_more}
 use Rattle.std.proofs.lemmas.Option.{same_Some}
 use Rattle.wdt_units.specs.Have.{PlainSpan}
 use Rattle.wdt_ranges.specs.Spans.{end_of, is_span}
-use Rattle.wdt_ranges.proofs.Apart.{span_from}
+use Rattle.wdt_ranges.proofs.ForCallers.{span_from}
 use Rattle.wdt_logfmt.specs.declared.entry.LogEntry.{LogEntry}
 use Rattle.wdt_logfmt.specs.declared.entry.LogEntry.TheVariants.{File as Named, Covered}
 use Rattle.wdt_logfmt.specs.declared.view.LogFile.{LogFile}

@@ -5,7 +5,7 @@ ghost use Rattle.wdt_depot.specs.Disk.{seen_of};
 ghost use Rattle.wdt_depot.specs.Moments.{IfTold};
 ghost use Rattle.wdt_depot.specs.State.{Counts};
 ghost use Rattle.wdt_logfmt.specs.Adding.{all_added};
-ghost use Rattle.wdt_logfmt.specs.Spelling.{closed_batch, spell_all};
+ghost use Rattle.wdt_logfmt.specs.Spelling.{closed_batch, spell_all, written_version};
 ghost use Rattle.wdt_logfmt.specs.View.{NamedFile, is_view, meaning_of, named_files};
 ghost use Rattle.wdt_good.specs.Batch.{forgotten_of};
 ghost use Rattle.wdt_good.specs.Calls.{run_append};
@@ -73,6 +73,7 @@ impl Log {
         ensures logged { IfOk result (λ log. RestsIn log (D.state depot.new)) }
         ensures says { IfOk result (λ log. IfTold (λ t. SaysAs (seen_of t.now) log.meaning.files) (D.state depot.old).told) }
         ensures open { IfOk result (λ log. log.shut ≡ false) }
+        ensures version { IfOk result (λ log. log.version ≡ written_version) }
         ensures refused { IfErr result (λ fail. IsOpeningFail (D.state depot.old).told fail) }
         ensures others { OthersStand (D.state depot.old).told (D.state depot.new).told }
         ensures exact { RanOpening result (D.state depot.old) (D.state depot.new) }

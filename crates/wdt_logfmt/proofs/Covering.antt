@@ -6,7 +6,7 @@ use Rattle.std.proofs.lemmas.Bool.{and_parts, and_from, and_right, le-leb, not_f
 use Rattle.wdt_units.specs.Have.{HaveFile, PlainSpan, is_in}
 use Rattle.wdt_ranges.specs.Adding.{HasNoneOf, IsFirstShared}
 use Rattle.wdt_ranges.specs.Spans.{are_apart, end_of, has, is_span}
-use Rattle.wdt_ranges.proofs.Apart.{span_from}
+use Rattle.wdt_ranges.proofs.ForCallers.{span_from}
 use Rattle.wdt_logfmt.specs.Adding.{has_room, have_with, overlap, with_span}
 use Rattle.wdt_logfmt.proofs.Spans.{none_overlap, some_overlap, with_span-is}
 

@@ -17,5 +17,5 @@ pub use Rattle.wdt_logfmt.proofs.Blocks.{block_marked, blocks_marked, entries-ap
 pub use Rattle.wdt_logfmt.proofs.Known.{HasNumber, IsFreeSlot, known_stays, new_slot, number_found, number_new}
 -- ---- files
 
-pub use Rattle.wdt_logfmt.proofs.Views.{IsFile, IsView, eq_sym, file_parts, names_kept, names_put, rising_put, view_none, view_parts}
-pub use Rattle.wdt_logfmt.proofs.Spans.{length-with_span, total-with_span, with_has, with_span-is}
+pub use Rattle.wdt_logfmt.proofs.Views.{IsFile, IsView, eq_sym, file_parts, names_kept, names_put, rising_put, sum_same, view_none, view_parts}
+pub use Rattle.wdt_logfmt.proofs.Spans.{length-with_span, none_overlap, total-with_span, with_has, with_span-is}

@@ -18,7 +18,7 @@ use Rattle.wdt_units.specs.Have.{HaveFile, is_named}
 use Rattle.wdt_units.specs.Tree.{is_before}
 use Rattle.wdt_ranges.specs.declared.have.FileHave.{FileHave}
 use Rattle.wdt_ranges.specs.Files.{have_file, is_before_file, is_in_order}
-use Rattle.wdt_ranges.proofs.InOrder.{in_order_from}
+use Rattle.wdt_ranges.proofs.ForCallers.{in_order_from}
 use Rattle.wdt_logfmt.specs.Sorting.{path_of, IsSortedByPath}
 use Rattle.wdt_logfmt.specs.View.{NamedFile, have_of_file, have_of, put_by_path, names, is_file, is_numbered_above, is_rising, are_paths_once, is_view}
 use Rattle.wdt_logfmt.proofs.Views.{file_parts, view_parts}

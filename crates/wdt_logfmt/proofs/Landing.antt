@@ -6,7 +6,7 @@ use Rattle.std.proofs.lemmas.Bool.{and_from, and_parts, cases_eq, cases_lt, eq-e
 use Rattle.std.proofs.lemmas.List.Sums.{sum_by-cons}
 use Rattle.wdt_units.specs.Have.{PlainSpan, is_in}
 use Rattle.wdt_ranges.specs.Spans.{are_apart_from, end_of, has, is_span}
-use Rattle.wdt_ranges.proofs.Apart.{apart_parts, apart_cons, has_before, in_parts, span_from}
+use Rattle.wdt_ranges.proofs.ForCallers.{apart_parts, apart_cons, has_before, in_parts, span_from}
 use Rattle.wdt_logfmt.specs.declared.entry.LogEntry.{LogEntry}
 use Rattle.wdt_logfmt.specs.declared.entry.LogEntry.TheVariants.{File, Covered}
 use Rattle.wdt_logfmt.specs.Adding.{added, all_added, can_cover, can_name, covering, have_with, is_room_in, joined, just_named, put_by_number, span_at, with_span}

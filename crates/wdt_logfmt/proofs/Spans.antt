@@ -6,7 +6,7 @@ use Rattle.wdt_units.specs.Have.{PlainSpan, is_in}
 use Rattle.std.proofs.lemmas.List.Sums.{sum_by-cons}
 use Rattle.wdt_ranges.specs.Spans.{count_of, end_of, is_span, are_apart_from, are_apart, has, total_of}
 use Rattle.wdt_ranges.specs.Adding.{is_shared, HasNoneOf}
-use Rattle.wdt_ranges.proofs.Apart.{IsSpanOf, span_parts, span_from, in_past, in_here, in_parts, apart_parts, apart_cons, apart_lower, has_before}
+use Rattle.wdt_ranges.proofs.ForCallers.{IsSpanOf, span_parts, span_from, in_past, in_here, in_parts, apart_parts, apart_cons, apart_lower, has_before}
 use Rattle.wdt_logfmt.specs.View.{ends_within}
 use Rattle.wdt_logfmt.specs.Adding.{overlap, joined, with_span}
 

@@ -7,7 +7,7 @@ use Rattle.std.proofs.lemmas.List.Sums.{sum_by-cons}
 use Rattle.std.proofs.lemmas.Slice.Eq.{bytes_eq-Decides}
 use Rattle.wdt_units.specs.Have.{PlainSpan}
 use Rattle.wdt_ranges.specs.Spans.{are_apart, end_of, is_span}
-use Rattle.wdt_ranges.proofs.Apart.{span_from}
+use Rattle.wdt_ranges.proofs.ForCallers.{span_from}
 use Rattle.wdt_logfmt.specs.declared.entry.LogEntry.{LogEntry}
 use Rattle.wdt_logfmt.specs.declared.entry.LogEntry.TheVariants.{File, Covered}
 use Rattle.wdt_logfmt.specs.View.{NamedFile, is_numbered, names, is_nameable, ends_within, is_file, is_numbered_above, is_rising, are_paths_once, spans_in, bytes_in, is_within_limits, is_view}

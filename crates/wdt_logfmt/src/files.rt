@@ -17,11 +17,8 @@ use std::collections::BTreeSet;
 use std::marker::Model;
 use wdt_ranges::{AddFail, FileHave, Ranges, Span};
 use wdt_units::{
-    MAX_BLOCK, MAX_FILE_SIZE, MAX_FILES, MAX_TOTAL, Name, NameFail, NoMemory, is_reserved,
+    MAX_BLOCK, MAX_FILE_SIZE, MAX_FILES, MAX_SPANS, MAX_TOTAL, Name, NameFail, NoMemory, is_reserved,
 };
-
-/// The greatest number of spans of all files together.
-const MAX_SPANS: usize = 1_310_720;
 
 /// The files that entries have led to so far, seen as their list, which rises by number.
 #[derive(Drop)]
@@ -118,7 +115,7 @@ impl<'a> Files<'a> {
         let Some((file, spans)) = covered else {
             return Ok(None);
         };
-        if spans > MAX_SPANS {
+        if spans > MAX_SPANS as usize {
             return Ok(None);
         }
         let bytes = self.bytes + span.length;

@@ -4,7 +4,7 @@ use Rattle.wdt_units.specs.declared.limits.TheConstants.{MAX_LANES}
 use Rattle.wdt_units.specs.declared.numbers.Lane.{Lane}
 use Rattle.wdt_funnel.specs.Barrier.{Barrier, after, barrier_from, barrier_of, is_open, no_barrier, untold}
 use Rattle.wdt_funnel.specs.Happenings.{Idled}
-use Rattle.wdt_funnel.proofs.Says as barriers
+use Rattle.wdt_funnel.proofs.ForCallers as barriers
 use Rattle.wdt_sender_fsm.specs.Rules.{every}
 use Rattle.wdt_receiver_fsm.specs.declared.events.RecvEvent.{RecvEvent}
 use Rattle.wdt_receiver_fsm.specs.declared.events.RecvEvent.TheVariants as events

@@ -13,7 +13,7 @@ use Rattle.wdt_units.proofs.LaneSetLaws.{in_none, in_only, in_with, only_fits, w
 use Rattle.wdt_codec.specs.declared.frames.Mark.{Mark}
 use Rattle.wdt_funnel.specs.Barrier.{Barrier, after, barrier_from, barrier_of, no_barrier, untold}
 use Rattle.wdt_funnel.specs.Happenings.{Happening, Took, Dropped, Idled, Told, Closed, AreOn, is_closed}
-use Rattle.wdt_funnel.proofs.Says as barriers
+use Rattle.wdt_funnel.proofs.ForCallers as barriers
 use Rattle.wdt_receiver_fsm.specs.declared.events.RecvEvent.{RecvEvent}
 use Rattle.wdt_receiver_fsm.specs.declared.events.RecvEvent.TheVariants as events
 use Rattle.wdt_receiver_fsm.specs.PlainReceiver.{mark_of}

@@ -9,7 +9,7 @@ use Rattle.wdt_units.specs.declared.numbers.LaneSet.{LaneSet}
 use Rattle.wdt_units.specs.LaneSets.{has_lane}
 use Rattle.wdt_funnel.specs.Happenings.{Happening, ends_idling, ends_telling, idles, closes, stands, takes, tells}
 use Rattle.wdt_funnel.specs.Happenings as funnel
-use Rattle.wdt_funnel.proofs.Histories.{any-more, heard-more, stands-more}
+use Rattle.wdt_funnel.proofs.ForCallers.{any-more, heard-more, stands-more}
 use Rattle.wdt_sender_fsm.specs.Rules.{every}
 use Rattle.wdt_receiver_fsm.specs.declared.events.RecvEvent.{RecvEvent}
 use Rattle.wdt_receiver_fsm.specs.declared.events.RecvEvent.TheVariants as events

@@ -1,5 +1,2 @@
 -- What is cited of the sender's proofs: how two ends speak in turn, and lists of which one item is set.
-pub use Rattle.wdt_sender_fsm.proofs.lemmas.Phases.{one_talker, pieces_lead}
-pub use Rattle.wdt_sender_fsm.proofs.lemmas.Steps.{get_set, if_has, lane_set, served}
-pub use Rattle.wdt_sender_fsm.proofs.lemmas.Talk.{hears, moved-first, says, turned, turned_talker}
-pub use Rattle.wdt_sender_fsm.proofs.lemmas.Works.{set_other}
+pub use Rattle.wdt_sender_fsm.proofs.Shared.{get_set, hears, if_has, lane_set, moved-first, one_talker, pieces_lead, says, served, set_other, turned, turned_talker}

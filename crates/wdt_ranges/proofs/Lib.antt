@@ -1,5 +1,6 @@
 pub mod Apart
 pub mod Chunked
+pub mod ForCallers
 pub mod Gaps
 pub mod InOrder
 pub mod Joins

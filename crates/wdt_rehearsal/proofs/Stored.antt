@@ -13,7 +13,7 @@ use Rattle.wdt_depot.specs.Disk.{Disk, DiskFile, clean, made, spliced, synced_at
 use Rattle.wdt_depot.specs.Moments.{Told, IfTold, OneStep, MayDo}
 use Rattle.wdt_depot.specs.State.{State, Counts, CountsSlip, SlipsWhere, at_spot, is_behind, is_far, is_past_end, lacks, path_of, path_or}
 use Rattle.wdt_depot.specs.declared.failure.DepotFail.{DepotFail}
-use Rattle.wdt_depot.proofs.Images.{with_file-same, with_file-other}
+use Rattle.wdt_depot.proofs.ForCallers.{with_file-same, with_file-other}
 use Rattle.wdt_rehearsal.specs.Destination.{Lands, landed_at, landed_over}
 use Rattle.wdt_rehearsal.specs.Storing.{HasAt, HasLanded, IsEmptyAt, IsSettled, IsWritten, Stands}
 

@@ -21,9 +21,9 @@ use Rattle.wdt_logfmt.specs.Marks.{Marked, byte_count, marked_of, span_count, sp
 use Rattle.wdt_logfmt.specs.Spelling.{written_version}
 use Rattle.wdt_logfmt.specs.View.{NamedFile, bytes_in, is_file, is_nameable, is_numbered, is_rising, names, spans_in}
 use Rattle.wdt_logfmt.proofs.ForCallers.{IsFile, all_added-append, batch-view, can_land, file_parts, length-beside, length-with_span, sum_covered, view_parts, with_has}
-use Rattle.wdt_logfmt.proofs.Spans.{none_overlap}
-use Rattle.wdt_logfmt.proofs.Views.{sum_same}
-use Rattle.wdt_ranges.proofs.Apart.{span_from}
+use Rattle.wdt_logfmt.proofs.ForCallers.{none_overlap}
+use Rattle.wdt_logfmt.proofs.ForCallers.{sum_same}
+use Rattle.wdt_ranges.proofs.ForCallers.{span_from}
 use Rattle.wdt_writer.specs.declared.Part.{Part}
 use Rattle.wdt_writer.specs.OnWay.{AreApart, AreOnWay, IsClearOf, IsOnWay, IsSettled}
 use Rattle.wdt_writer.specs.PlainFiles.{AreFiles, AreNamed, known_of}

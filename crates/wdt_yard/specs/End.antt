@@ -15,6 +15,7 @@ use Rattle.wdt_sender_fsm.specs.PlainSender.{PlainSender, is_ended, lane_or_ende
 use Rattle.wdt_sender_fsm.specs.SenderHistory.{past_of}
 use Rattle.wdt_yard.specs.Ledger.{Ledger}
 
+-- the plain sender, and what was made ready for the next step
 pub record EndView : Type 0 where
   pub plain : PlainSender
   -- how many more entries can be noted without memory

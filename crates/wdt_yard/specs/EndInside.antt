@@ -2,6 +2,7 @@
 use Rattle.wdt_yard.specs.declared.end.SendEnd.TheInside.{Inside}
 use Rattle.wdt_yard.specs.End.{EndView, IsEnd}
 
+-- what contracts see of an end
 abbrev pub seen : Inside → EndView
 seen end =
     record {
@@ -19,5 +20,6 @@ seen end =
       ready = end.journal.ready;
     }
 
+-- what the end keeps hangs together
 abbrev pub IsSendEnd : Inside → Type 0
 IsSendEnd end = IsEnd end.manifest end.block end.have end.journal end.lanes.items

@@ -13,6 +13,7 @@ use Rattle.wdt_yard.specs.declared.tally.Tally.{Tally}
 use Rattle.wdt_yard.specs.Ledger.{Ledger}
 use Rattle.wdt_yard.specs.Tallies.{tallies_of}
 
+-- what contracts see of a journal: room is what its list of entries has left
 abbrev pub seen : Inside → Ledger
 seen journal =
     record {
@@ -23,6 +24,7 @@ seen journal =
       ready = journal.claims.ready;
     }
 
+-- how many blocks a lane's list has
 abbrev pub length_of : Claims → ℕ
 length_of claims = length claims.kept
 
@@ -41,6 +43,7 @@ pub record IsKept (tallies : List Tally) (planned : List Block) (queue : Waiting
   pub shared : AreShared planned queue.waiting lanes
   pub room : queue.room ≡ total_kept lanes
 
+-- the journal keeps what its history says
 abbrev pub IsJournal : Inside → Type 0
 IsJournal journal =
     IsKept journal.tallies.items (listed_blocks (option_map vec_items journal.planned)) journal.queue journal.claims.lanes journal.has_finish journal.events.items

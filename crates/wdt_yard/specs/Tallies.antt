@@ -9,6 +9,7 @@ use Rattle.wdt_yard.specs.declared.tally.Tally.{Tally}
 abbrev pub no_tally : Tally
 no_tally = record { connections = 0; failed_tries = 0; acknowledged = false }
 
+-- the tally of a lane with this past
 abbrev pub tally_of : LanePast → Tally
 tally_of past = record { connections = past.connections; failed_tries = past.failed_tries; acknowledged = past.is_acked }
 

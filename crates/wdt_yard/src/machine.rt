@@ -2,9 +2,10 @@
 ghost use Rattle.std.specs.Prelude.{◌≡◌, ◌≢◌, ℕ, ◌+◌, ◌≤◌, List, ◌++◌, length, Some, IfOk, IfErr};
 ghost use Rattle.wdt_units.specs.Lanes.{few_loose, AllOf, Below};
 ghost use Rattle.wdt_sender_fsm.specs.PlainSender.{lane_at};
-ghost use Rattle.wdt_sender_fsm.specs.Sender.{FitsIn};
+ghost use Rattle.wdt_sender_fsm.specs.Sender.{FitsIn, IsSender};
 ghost use Rattle.wdt_sender_fsm.specs.SenderHistory.{lane_of};
 ghost use Rattle.wdt_sender_fsm.specs.Turn.{send_turn};
+ghost use Rattle.wdt_sender_fsm.specs.Writes.{FitsAct, IsLawful};
 ghost use Rattle.wdt_sender_fsm.specs.declared.events.SendEvent.{SendEvent as PlainEvent};
 ghost use Rattle.wdt_yard.specs.Turns.{IsLegalOfSome, IsTurn, count_of};
 
@@ -39,8 +40,9 @@ impl Machine for Yard {
 
     ghost counted = { count_of };
 
-    /// One step of a lane, as `Yard::step` makes it. Its last two clauses say of this machine what the
-    /// trait can't: which step it is, and that want of memory changes nothing at all.
+    /// One step of a lane, as `Yard::step` makes it. The clauses from `step` on say of this machine
+    /// what the trait can't: which step it is, that want of memory changes nothing at all, that its act
+    /// can be performed, and that the end is and stays a sender's within the limits.
     fn turn(&mut self, lane: Lane, put: SendIn) -> Result<SendAct, SendIn>
         requires lane { Below (Some (length self.old.lanes)) lane.0 }
         requires fits { FitsIn put }
@@ -51,6 +53,10 @@ impl Machine for Yard {
         ensures legal { IsLegalOfSome self.new.history }
         ensures step { IfOk result (λ act. send_turn self.old lane put ≡ (act, self.new)) }
         ensures back { IfErr result (λ back. (back ≡ put) × (self.new ≡ self.old)) }
+        ensures act { IfOk result (λ act. FitsAct self.old.manifest act) }
+        ensures was { IsSender self.old }
+        ensures lawful { IsSender self.new }
+        ensures limits { IsLawful self.new }
     {
         // The laws: what a step leaves as it is, and that a failed end's answer stays.
         steps_touch_their_lane();

@@ -6,7 +6,7 @@ use Rattle.std.proofs.lemmas.Slice.Eq.{bytes_eq-Decides}
 use Rattle.wdt_units.specs.Have.{PlainSpan, HaveFile}
 use Rattle.wdt_units.specs.Tree.{is_before}
 use Rattle.wdt_ranges.specs.Files.{is_before_file, is_in_order}
-use Rattle.wdt_ranges.proofs.InOrder.{in_order_from}
+use Rattle.wdt_ranges.proofs.ForCallers.{in_order_from}
 use Rattle.wdt_sender_fsm.specs.Chunks.{unordered_from, unordered_at, different_from, different_at, is_same_span, are_same_spans, is_same_file}
 
 -- ---- order

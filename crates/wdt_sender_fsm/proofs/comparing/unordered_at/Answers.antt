@@ -1,7 +1,7 @@
 use Rattle.std.proofs.Common.{map, sym, ◌∙◌, arith}
 use Rattle.std.proofs.lemmas.List.{length-map}
 use Rattle.wdt_ranges.specs.Files.{have_file}
-use Rattle.wdt_ranges.proofs.InOrder.{neighbours}
+use Rattle.wdt_ranges.proofs.ForCallers.{neighbours}
 use Rattle.wdt_sender_fsm.proofs.lemmas.Compares.{ordered_all, ordered_more, ordered_start, unordered_here}
 use Rattle.wdt_sender_fsm.proofs.comparing.unordered_at.Goals as goal
 
