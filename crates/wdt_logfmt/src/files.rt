@@ -17,7 +17,8 @@ use std::collections::BTreeSet;
 use std::marker::Model;
 use wdt_ranges::{AddFail, FileHave, Ranges, Span};
 use wdt_units::{
-    MAX_BLOCK, MAX_FILE_SIZE, MAX_FILES, MAX_SPANS, MAX_TOTAL, Name, NameFail, NoMemory, is_reserved,
+    MAX_BLOCK, MAX_FILE_SIZE, MAX_FILES, MAX_SPANS, MAX_TOTAL, Name, NameFail, NoMemory,
+    is_reserved,
 };
 
 /// The files that entries have led to so far, seen as their list, which rises by number.

@@ -40,11 +40,11 @@ returns-in_default-covered c =
 pub overflow_add-bytes : goal.overflow_add-bytes
 overflow_add-bytes c = let l = limit_parts (files_in 0 c.self.inside.slots.items) (view_parts (files_in 0 c.self.inside.slots.items) c.self.invariant.view).limits in omega (arith, l.bytes, c.self.invariant.byte_count)
 
-pub returns-then-spans-gt-MAX_SPANS : goal.returns-then-spans-gt-MAX_SPANS
-returns-then-spans-gt-MAX_SPANS c =
+pub returns-then-spans : goal.returns-then-spans
+returns-then-spans c =
     let s = span_at c.args.offset c.args.length in
     let v = covered_from c.self.inside.slots.items c.self.inside.spans c.args.number c.in-Some.file s _ c.in-Some-covered.file c.in-Some-covered.spans c.in-Some.ensures.file c.in-Some-covered.is c.in_ok-covered.ensures.file c.in_ok-covered.ensures.spans in
-    too_many_spans c.self.inside.slots.items _ c.self.inside.spans c.self.inside.bytes c.self.invariant c.args.number c.in-Some.file v.here s c.in-Some-covered.file v.is c.args.self c.self.view_is (omega arith) (omega arith) v.room c.in-Some-covered.spans v.counts c.if-spans-gt-MAX_SPANS.true
+    too_many_spans c.self.inside.slots.items _ c.self.inside.spans c.self.inside.bytes c.self.invariant c.args.number c.in-Some.file v.here s c.in-Some-covered.file v.is c.args.self c.self.view_is (omega arith) (omega arith) v.room c.in-Some-covered.spans v.counts c.if-spans.true
 
 pub returns-then-bytes-gt-MAX_TOTAL : goal.returns-then-bytes-gt-MAX_TOTAL
 returns-then-bytes-gt-MAX_TOTAL c =
@@ -63,11 +63,11 @@ returns c =
     let s = span_at c.args.offset c.args.length in
     let v = covered_from c.self.inside.slots.items c.self.inside.spans c.args.number c.in-Some.file s _ c.in-Some-covered.file c.in-Some-covered.spans c.in-Some.ensures.file c.in-Some-covered.is c.in_ok-covered.ensures.file c.in_ok-covered.ensures.spans in
     answers c.self.inside.slots.items _ c.self.inside.spans c.self.inside.bytes c.self.invariant c.args.number c.in-Some.file v.here s c.in-Some-covered.file v.is c.args.self c.self.view_is (omega arith) (omega arith) v.room c.in-Some-covered.spans v.counts
-    c.if-spans-gt-MAX_SPANS.false c.if-bytes-gt-MAX_TOTAL.false c.take_file.new.slots.items c.take_file.ensures.taken
+    c.if-spans.false c.if-bytes-gt-MAX_TOTAL.false c.take_file.new.slots.items c.take_file.ensures.taken
 
 pub invariant_of-self : goal.invariant_of-self
 invariant_of-self c =
     let s = span_at c.args.offset c.args.length in
     let v = covered_from c.self.inside.slots.items c.self.inside.spans c.args.number c.in-Some.file s _ c.in-Some-covered.file c.in-Some-covered.spans c.in-Some.ensures.file c.in-Some-covered.is c.in_ok-covered.ensures.file c.in_ok-covered.ensures.spans in
     keeps c.self.inside.slots.items _ c.self.inside.spans c.self.inside.bytes c.self.invariant c.args.number c.in-Some.file v.here s c.in-Some-covered.file v.is c.args.self c.self.view_is (omega arith) (omega arith) v.room c.in-Some-covered.spans v.counts
-    c.if-spans-gt-MAX_SPANS.false c.if-bytes-gt-MAX_TOTAL.false c.take_file.new.slots.items c.take_file.ensures.taken
+    c.if-spans.false c.if-bytes-gt-MAX_TOTAL.false c.take_file.new.slots.items c.take_file.ensures.taken
