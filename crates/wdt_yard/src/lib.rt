@@ -25,8 +25,3 @@ mod turning;
 mod yard;
 
 pub use yard::Yard;
-
-#[cfg(test)]
-mod testing;
-#[cfg(test)]
-mod tests;

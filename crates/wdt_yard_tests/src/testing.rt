@@ -3,7 +3,6 @@ ghost use Rattle.std.specs.Prelude.{◌≡◌, ◌<◌, ◌≤◌, [], ◌∷◌
 ghost use Rattle.wdt_codec.specs.Frames.{FitsHeader};
 ghost use Rattle.wdt_sender_fsm.specs.Sender.{FitsIn};
 
-use crate::Yard;
 use std::alloc::Global;
 use std::process::Abort;
 use std::test::Fail;
@@ -12,6 +11,7 @@ use wdt_ranges::Have;
 use wdt_sender_fsm::{SendAct, SendIn};
 use wdt_tree::{Manifest, RawEntry};
 use wdt_units::{Conn, Header, Lane, Name, NoMemory};
+use wdt_yard::Yard;
 
 const SETTINGS: Settings = Settings {
     version: 1,
