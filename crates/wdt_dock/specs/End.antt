@@ -10,7 +10,7 @@ use Rattle.wdt_receiver_fsm.specs.declared.events.RecvEvent.{RecvEvent}
 use Rattle.wdt_receiver_fsm.specs.declared.states.RecvLane.{RecvLane}
 use Rattle.wdt_receiver_fsm.specs.PlainReceiver.{PlainReceiver, is_ended, lane_or_ended, new_lane}
 use Rattle.wdt_receiver_fsm.specs.ReceiverHistory.{end_of}
-use Rattle.wdt_notes.specs.View.{is_done_in}
+use Rattle.wdt_receiver_fsm.specs.View.{is_done_in}
 
 -- the lanes, the history and the answer, and what is fixed from the beginning
 pub record EndView : Type 0 where

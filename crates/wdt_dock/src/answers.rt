@@ -4,8 +4,7 @@ ghost use Rattle.wdt_receiver_fsm.specs.PlainReceiver.{is_ended};
 ghost use Rattle.wdt_sender_fsm.specs.Rules.{every};
 ghost use Rattle.wdt_dock.specs.End.{answer_in, is_out_in};
 
-use wdt_notes::Notes;
-use wdt_receiver_fsm::{RecvLane, RecvState};
+use wdt_receiver_fsm::{Notes, RecvLane, RecvState};
 use wdt_sender_fsm::EndAnswer;
 
 /// The answer behind a step: a failure stays, and else it follows from the lanes.

@@ -7,7 +7,7 @@ ghost use Rattle.wdt_receiver_fsm.specs.Ready.{is_closed, is_ready, untold};
 ghost use Rattle.wdt_receiver_fsm.specs.ReceiverHistory.{end_of, past_of};
 ghost use Rattle.wdt_receiver_fsm.specs.Sets.{set_of};
 ghost use Rattle.wdt_receiver_fsm.specs.Turn.{is_used_up};
-ghost use Rattle.wdt_notes.specs.Notable.{MayNote};
+ghost use Rattle.wdt_receiver_fsm.specs.Notable.{MayNote};
 ghost use Rattle.wdt_dock.specs.End.{IsSameEnd, lane_in, new_end, stands, with_note};
 
 use crate::answers::settle;
@@ -15,9 +15,8 @@ use std::alloc::Global;
 use std::marker::Model;
 use wdt_codec::{Marks, Settings};
 use wdt_logfmt::LogView;
-use wdt_notes::Notes;
 use wdt_ranges::Have;
-use wdt_receiver_fsm::{RecvEvent, RecvLane, RecvState};
+use wdt_receiver_fsm::{Notes, RecvEvent, RecvLane, RecvState};
 use wdt_sender_fsm::EndAnswer;
 use wdt_units::{Block, Conn, Lane, LaneSet, MAX_LANES, NoMemory};
 

@@ -1,5 +1,5 @@
 -- The programs of calls on files and on the log, in the order in which they are made.
-use Rattle.std.specs.Prelude.{ℕ, ◌+◌, Bool, List, [], ◌∷◌, Option, Some, None}
+use Rattle.std.specs.Prelude.{ℕ, ◌+◌, Bool, true, List, [], ◌∷◌, Option, Some, None}
 use Rattle.wdt_depot.specs.Disk.{DiskFile}
 use Rattle.wdt_depot.specs.Programs.{Drive, both, looking, run_make, run_place, run_sync, run_write}
 use Rattle.wdt_logfmt.specs.Spelling.{new_log}
@@ -50,3 +50,18 @@ run_looked (Some f) = both looking run_reading
 -- the same, by what is found
 abbrev pub run_look : Drive → Bool × Drive
 run_look p = run_looked (p.disk log_path) p
+
+-- ---- a flush
+
+-- a file is entered and synced
+abbrev pub run_sync_file : List ℕ → Drive → Bool × Drive
+run_sync_file path = both looking (run_sync path)
+
+-- files are synced, one behind the other
+abbrev pub run_syncs : List (List ℕ) → Drive → Bool × Drive
+run_syncs [] = λ p. (true, p)
+run_syncs (path ∷ paths) = both (run_sync_file path) (run_syncs paths)
+
+-- a flush: the files are synced, and then the batch is appended to the log
+abbrev pub run_flush : List (List ℕ) → ℕ → List ℕ → Drive → Bool × Drive
+run_flush paths end batch = both (run_syncs paths) (run_append end batch)

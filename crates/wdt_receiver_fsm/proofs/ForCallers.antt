@@ -7,7 +7,7 @@ use Rattle.wdt_units.specs.declared.numbers.Lane.{Lane}
 use Rattle.wdt_depot.specs.Programs.{Calls, Drive, both, onward}
 use Rattle.wdt_logfmt.specs.Batches.{path_at}
 use Rattle.wdt_receiver_fsm.specs.declared.states.RecvState.TheVariants as states
-use Rattle.wdt_receiver_fsm.specs.Calls.{run_piece, run_sync_file, run_syncs}
+use Rattle.wdt_good.specs.Calls.{run_piece, run_sync_file, run_syncs}
 use Rattle.wdt_receiver_fsm.specs.Logging.{all_logged, all_logged_by, flush_by, flush_calls, flush_calls_by, flush_plan, flushed}
 use Rattle.wdt_receiver_fsm.specs.Outcomes.{landed_by}
 use Rattle.wdt_receiver_fsm.specs.Plan.{EndsIn, Plan, PlanRan, calls, ends, run_plan, went}

@@ -1,10 +1,12 @@
 pub mod Acts
 pub mod Batched
-pub mod Calls
 pub mod Causes
 pub mod Frames
+pub mod Happened
+pub mod Kept
 pub mod Legal
 pub mod Logging
+pub mod Notable
 pub mod Outcomes
 pub mod Phases
 pub mod PlainReceiver
@@ -14,7 +16,9 @@ pub mod Receiver
 pub mod ReceiverHistory
 pub mod Rows
 pub mod Sets
+pub mod Tallies
 pub mod Touches
 pub mod Turn
+pub mod View
 pub mod Worked
 pub mod Writes

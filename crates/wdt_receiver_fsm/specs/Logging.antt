@@ -6,7 +6,7 @@ use Rattle.wdt_logfmt.specs.declared.entry.LogEntry.{LogEntry}
 use Rattle.wdt_logfmt.specs.Batches.{entries_of, files_behind, numbers_of, path_at}
 use Rattle.wdt_logfmt.specs.Spelling.{closed_batch}
 use Rattle.wdt_logfmt.specs.View.{Meaning}
-use Rattle.wdt_receiver_fsm.specs.Calls.{run_flush}
+use Rattle.wdt_good.specs.Calls.{run_flush}
 use Rattle.wdt_receiver_fsm.specs.Plan.{Plan, calls}
 use Rattle.wdt_receiver_fsm.specs.PlainReceiver.{PlainReceiver}
 

@@ -25,7 +25,7 @@ use Rattle.wdt_receiver_fsm.specs.declared.events.RecvEvent.{RecvEvent}
 use Rattle.wdt_receiver_fsm.specs.declared.events.RecvEvent.TheVariants as events
 use Rattle.wdt_receiver_fsm.specs.declared.inputs.RecvIn.{RecvIn}
 use Rattle.wdt_receiver_fsm.specs.declared.states.RecvState.TheVariants as states
-use Rattle.wdt_receiver_fsm.specs.Calls.{run_piece}
+use Rattle.wdt_good.specs.Calls.{run_piece}
 use Rattle.wdt_receiver_fsm.specs.Frames.{block_fault, settings_fault, short_fault, size_fault}
 use Rattle.wdt_receiver_fsm.specs.Logging.{flush_plan}
 use Rattle.wdt_receiver_fsm.specs.Plan.{Plan, calls, ends}

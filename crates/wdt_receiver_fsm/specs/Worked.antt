@@ -22,7 +22,7 @@ use Rattle.wdt_receiver_fsm.specs.declared.events.RecvEvent.TheVariants as event
 use Rattle.wdt_receiver_fsm.specs.declared.states.RecvLane.{RecvLane}
 use Rattle.wdt_receiver_fsm.specs.declared.states.RecvState.{RecvState}
 use Rattle.wdt_receiver_fsm.specs.declared.states.RecvState.TheVariants as states
-use Rattle.wdt_receiver_fsm.specs.Calls.{run_flush, run_piece}
+use Rattle.wdt_good.specs.Calls.{run_flush, run_piece}
 use Rattle.wdt_receiver_fsm.specs.Plan.{Plan, calls, ends}
 use Rattle.wdt_receiver_fsm.specs.PlainReceiver.{PlainReceiver, opened}
 use Rattle.wdt_receiver_fsm.specs.Turn.{Step}

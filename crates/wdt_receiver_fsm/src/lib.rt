@@ -8,14 +8,23 @@
 //! The history tells what has landed, which lanes are idle, who was told of a closed lane, and whether
 //! the finish is ready (`specs/ReceiverHistory`, `specs/Ready`); `specs/Legal` says which entries may
 //! follow which, and `specs/Phases` what a receiver's lane says in turn.
+//!
+//! `Notes` are a history that answers at once what the definitions read off all of it: they keep a tally of
+//! each lane, what is said of the whole end, and a funnel (`wdt_funnel`), and their invariant is that the
+//! history says the same.
 #![tactic(auto)]
 
 mod acts;
+mod common;
 mod events;
 mod inputs;
 mod laws;
+mod note_laws;
+mod notes;
+mod noting;
 mod rows;
 mod states;
+mod tally;
 
 pub use acts::RecvAct;
 pub use events::RecvEvent;
@@ -25,5 +34,7 @@ pub use laws::{
     lanes_are_sound, pasts_follow_the_history, receivers_stay_receivers, steps_follow_their_rows,
     steps_have_outcomes, steps_touch_their_lane, what_is_written_fits, worked_steps,
 };
+pub use note_laws::{a_funnel_says_what_a_history_says, what_is_allowed_may_be_noted};
+pub use notes::Notes;
 pub use rows::{RecvRow, allowed, row};
 pub use states::{RecvLane, RecvState};

@@ -1,4 +1,0 @@
-pub mod Keeps
-pub mod Sets
-pub mod Tallying
-pub mod Words

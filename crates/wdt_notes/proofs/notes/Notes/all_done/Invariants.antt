@@ -1,7 +1,0 @@
-use Rattle.std.proofs.Common.{◌≡◌, true}
-use Rattle.wdt_sender_fsm.specs.Rules.{every}
-use Rattle.wdt_notes.specs.View.{is_done_in}
-use Rattle.wdt_notes.proofs.notes.Notes.all_done.Given as goal
-
-abbrev pub invariant-loop-number : goal.invariant-loop-number
-invariant-loop-number l = every l.number (is_done_in l.self.history) ≡ true

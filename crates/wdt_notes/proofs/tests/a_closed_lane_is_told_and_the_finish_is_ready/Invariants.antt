@@ -1,5 +1,0 @@
-use Rattle.std.proofs.Common.{◌≡◌}
-use Rattle.wdt_notes.proofs.tests.a_closed_lane_is_told_and_the_finish_is_ready.Given as goal
-
-abbrev pub invariant-loop-step : goal.invariant-loop-step
-invariant-loop-step g l = l.notes.lanes ≡ 2

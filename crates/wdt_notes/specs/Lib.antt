@@ -1,5 +1,0 @@
-pub mod Happened
-pub mod Kept
-pub mod Notable
-pub mod Tallies
-pub mod View
