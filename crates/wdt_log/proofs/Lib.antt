@@ -1,9 +1,11 @@
 pub mod Adding
 pub mod Alone
+pub mod Landing
 pub mod Laying
 pub mod Making
 pub mod Numbered
 pub mod Stages
 pub mod Steps
+pub mod Sweeping
 pub mod Torn
 pub mod Worked

@@ -1,3 +1,4 @@
+pub mod Flushing
 pub mod OpenLog
 pub mod Others
 pub mod Stages
