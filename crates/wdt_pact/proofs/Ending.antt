@@ -73,7 +73,7 @@ each_tells P Q f [] e = tt
 each_tells P Q f (u ∷ us) e = (f u e.0, each_tells P Q f us e.1)
 
 -- a lane that becomes idle is so for the sender, too
-idle_here : (lane : SendLane) (acked : Bool) (hold : SendHold) (ss : Stance) (k : Link) (newest : Option Link) (kept landed : List Header) (held : Bool) → send_stance lane acked hold ≡ ss → AgreeOn (send_there newest ss) (Talks Asked) (Some k) → AgreeWaiting ss newest → Splits kept landed [] → held ≡ false
+pub idle_here : (lane : SendLane) (acked : Bool) (hold : SendHold) (ss : Stance) (k : Link) (newest : Option Link) (kept landed : List Header) (held : Bool) → send_stance lane acked hold ≡ ss → AgreeOn (send_there newest ss) (Talks Asked) (Some k) → AgreeWaiting ss newest → Splits kept landed [] → held ≡ false
     → IsIdle kept landed held newest ss (send_in_hand hold ++ (up_sent (top_by newest (Some k)) ++ said_there newest (frames.Done ∷ [])))
 idle_here lane acked hold (Talks s) k None kept landed held is on wait same holds =
     let x = asked_talk s k.down.sent k.up.sent on in

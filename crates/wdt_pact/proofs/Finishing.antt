@@ -142,7 +142,7 @@ no_marks q lane acked hold (Talks s) rs (Some k) None is asked none t a m = go (
   go (inr e) = marked talk e
 
 -- the lane that was asked has landed all
-own_here : (ss rs : Stance) (taken newest : Option Link) (kept landed : List Header) (begun : Option Header) (hand : List Message) (held : Bool) → rs ≡ Talks Asked → hand ≡ Framed frames.Done ∷ [] → begun ≡ None → AgreeOn (send_there newest ss) rs taken → AskedBy rs taken kept landed begun hand held → Splits kept landed [] × (held ≡ false)
+pub own_here : (ss rs : Stance) (taken newest : Option Link) (kept landed : List Header) (begun : Option Header) (hand : List Message) (held : Bool) → rs ≡ Talks Asked → hand ≡ Framed frames.Done ∷ [] → begun ≡ None → AgreeOn (send_there newest ss) rs taken → AskedBy rs taken kept landed begun hand held → Splits kept landed [] × (held ≡ false)
 own_here ss rs None newest kept landed begun hand held asked word none a x = let y = a.1 in cc
 own_here ss rs (Some k) newest kept landed begun hand held asked word none a x =
     let talk : OnLink (send_there newest ss) (Talks Asked) k.down.sent k.up.sent = subst (λ (r : Stance). OnLink (send_there newest ss) r k.down.sent k.up.sent) asked a in

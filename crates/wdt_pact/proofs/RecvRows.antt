@@ -32,7 +32,7 @@ ends_in (calls f s next) (Some zero) = inl (tt, refl)
 ends_in (calls f s next) (Some (suc n)) = inr (ends_in next (Some n))
 
 -- what the destination had doesn't hang on what happens
-have_stays : (opening : List NamedFile) (g h : List RecvEvent) → have_now opening g ≡ have_now opening h
+pub have_stays : (opening : List NamedFile) (g h : List RecvEvent) → have_now opening g ≡ have_now opening h
 unfolding have_now
 have_stays opening g h = refl
 

@@ -4,6 +4,7 @@ pub mod Pairs
 pub mod World
 pub mod Stances
 pub mod Lists
+pub mod Belongs
 pub mod Conversation
 pub mod Bytes
 pub mod Finishing

@@ -26,6 +26,8 @@ ghost use Rattle.wdt_receiver_fsm.specs.declared.states.RecvState.TheVariants as
 ghost use Rattle.wdt_receiver_fsm.specs.PlainReceiver as recv;
 ghost use Rattle.wdt_receiver_fsm.specs.Rows.{is_reading as receives_in};
 ghost use Rattle.wdt_receiver_fsm.specs.Ready.{is_ready};
+ghost use Rattle.wdt_receiver_fsm.specs.Writes.{CanTell};
+ghost use Rattle.wdt_pact.specs.Belongs.{RecvBelongsAt, RecvFits};
 ghost use Rattle.wdt_pact.specs.Bytes.{FitsFront, FrontDown, FrontUp, bytes_down, bytes_up};
 ghost use Rattle.wdt_pact.specs.Conversation.{Conversation, common, receiving, sending};
 ghost use Rattle.wdt_pact.specs.Each.{Each};
@@ -131,6 +133,18 @@ pub fn blocks_land()
         → (recv.past_at w.receiver l).begun ≡ Some b → Conversation (recv_steps w l None) }
 {
     receivers_stay_receivers();
+}
+
+/// Whatever a receiver's lane holds, and whichever program of its calls on the disk fails, behind its step the two
+/// ends of each lane fit together, and what each lane of the receiver holds belongs to its state. What is read is asked
+/// to lie in the grammar's ranges, and what the log said as it was opened in those of a frame.
+pub fn a_receiver_keeps_the_conversation()
+    ensures talks { (w : PlainWorld) (l : ℕ) (broken : Option ℕ) → Conversation w → Finishing w → l < length w.pairs → RecvBelongsAt w l
+        → RecvFits (pair_at w l).recv → CanTell w.receiver → Conversation (recv_steps w l broken) }
+    ensures belongs { (w : PlainWorld) (l k : ℕ) (broken : Option ℕ) → Conversation w → l < length w.pairs → ((i : ℕ) → i < length w.pairs → RecvBelongsAt w i)
+        → k < length (recv_steps w l broken).pairs → RecvBelongsAt (recv_steps w l broken) k }
+{
+    histories_are_sound();
 }
 
 /// Where a lane reads that nothing more is to come, and the receiver is ready for the finish with it, no block
