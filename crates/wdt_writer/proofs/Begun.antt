@@ -20,7 +20,7 @@ use Rattle.wdt_logfmt.specs.View.{NamedFile}
 use Rattle.wdt_logfmt.proofs.ForCallers.{HasNumber, known_stays, new_slot, number_found, number_new}
 use Rattle.wdt_writer.specs.declared.Part.{Part}
 use Rattle.wdt_writer.specs.OnWay.{AreApart, AreOnWay, AreSound, IsClearOf, IsOnWay}
-use Rattle.wdt_writer.specs.PlainFiles.{AreFiles, AreNamed, known_of}
+use Rattle.wdt_files.specs.PlainFiles.{AreFiles, AreNamed, known_of}
 use Rattle.wdt_writer.specs.PlainWriter.{blocks_of, file_told, known_by, known_with, part_of, whole}
 
 -- ---- no position in common

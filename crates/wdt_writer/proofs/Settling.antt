@@ -26,7 +26,7 @@ use Rattle.wdt_logfmt.proofs.ForCallers.{sum_same}
 use Rattle.wdt_ranges.proofs.ForCallers.{span_from}
 use Rattle.wdt_writer.specs.declared.Part.{Part}
 use Rattle.wdt_writer.specs.OnWay.{AreApart, AreOnWay, IsClearOf, IsOnWay, IsSettled}
-use Rattle.wdt_writer.specs.PlainFiles.{AreFiles, AreNamed, known_of}
+use Rattle.wdt_files.specs.PlainFiles.{AreFiles, AreNamed, known_of}
 use Rattle.wdt_writer.specs.PlainWriter.{blocks_of, part_by, part_of}
 use Rattle.wdt_writer.proofs.Named.{among_covered, among_put, covered_here, covered_other, each_file, file_numbered, numbered_file, numbered_put, spans_here, spans_none, spans_of_file, spans_other, spans_put}
 

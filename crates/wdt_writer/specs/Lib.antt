@@ -1,3 +1,2 @@
 pub mod OnWay
-pub mod PlainFiles
 pub mod PlainWriter

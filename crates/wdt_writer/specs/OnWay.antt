@@ -11,7 +11,7 @@ use Rattle.wdt_logfmt.specs.Marks.{marked_of, spans_at}
 use Rattle.wdt_logfmt.specs.Spelling.{written_version}
 use Rattle.wdt_logfmt.specs.View.{NamedFile}
 use Rattle.wdt_writer.specs.declared.Part.{Part}
-use Rattle.wdt_writer.specs.PlainFiles.{AreFiles, AreNamed}
+use Rattle.wdt_files.specs.PlainFiles.{AreFiles, AreNamed}
 use Rattle.wdt_writer.specs.PlainWriter.{blocks_of, part_of}
 
 -- no position of the block is there

@@ -1,0 +1,8 @@
+mod InSlots
+mod Kept
+mod Known
+mod Landed
+mod Landing
+mod Marks
+mod Named
+mod OfLog

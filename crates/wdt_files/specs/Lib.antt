@@ -1,0 +1,2 @@
+pub mod PlainFiles
+pub mod Slots
