@@ -6,5 +6,5 @@ use Rattle.wdt_dock.proofs.end.RecvEnd.idle.Goals as goal
 pub returns-clause-plain : goal.returns-clause-plain
 returns-clause-plain c = λ books.
     sym (ap (λ (v : EndView). plain_with v books)
-    (c.stand.ensures ∙ ap (λ (x : RecvLane). stands c.note.new.self c.args.lane.0 record x { has_waited = false }) c.lane.ensures
+    (c.stand.ensures ∙ ap (λ (x : RecvLane). stands c.note.new.self c.args.lane.0 x) (c.waited-stand.ensures ∙ ap (λ (x : RecvLane). let y : RecvLane = record x { has_waited = false } in y) c.lane.ensures)
     ∙ ap (λ (v : EndView). stands v c.args.lane.0 record (lane_in c.args.self.now c.args.lane.0) { has_waited = false }) c.note.ensures))
