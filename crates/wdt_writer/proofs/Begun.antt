@@ -1,10 +1,9 @@
 -- A block that may begin is on its way beside the others.
-use Rattle.std.proofs.Common.{◌≡◌, ◌⊎◌, inl, inr, ℕ, zero, suc, ◌+◌, ◌<◌, ◌≤◌, Bool, true, false, ◌&&◌, ◌||◌, not, nat_lt, nat_le, List, [], ◌∷◌, ◌++◌, length, map, sum_by, slice_get, Option, Some, None, refl, sym, ap, ◌∙◌, subst, arith}
-use Rattle.std.specs.Prelude.{cond, count_by, filter, if◌then◌else◌, is_some, min, max, slice_set, ◌==◌}
-use Rattle.std.specs.List.{list_any}
-use Rattle.std.proofs.lemmas.Bool.{and_from, and_parts, cases_Bool, cases_eq, eq-eqb, eqb-true, ne_eqb, or_cases, or_left, or_right, both_ways, leb-true, lt-ltb, ltb-true, ltb-false}
-use Rattle.std.proofs.lemmas.List.Sums.{sum_by-cons, count_by-le-length}
-use Rattle.wdt_units.specs.declared.limits.TheConstants.{MAX_BLOCK, MAX_FILES, MAX_FILE_SIZE, MAX_SPANS, MAX_TOTAL}
+use Rattle.std.proofs.Common.{◌≡◌, ◌⊎◌, inl, inr, ℕ, zero, suc, ◌+◌, ◌<◌, ◌≤◌, Bool, true, false, ◌&&◌, not, nat_lt, nat_le, List, [], ◌∷◌, ◌++◌, length, map, sum_by, Option, Some, None, refl, sym, ap, ◌∙◌, subst, arith}
+use Rattle.std.specs.Prelude.{cond, filter, if◌then◌else◌, is_some, max, slice_set, ◌==◌}
+use Rattle.std.proofs.lemmas.Bool.{and_from, and_parts, cases_Bool, cases_eq, eq-eqb, eqb-true, or_cases, or_left, both_ways, leb-true, lt-ltb, ltb-true, ltb-false}
+use Rattle.std.proofs.lemmas.List.Sums.{sum_by-cons}
+use Rattle.wdt_units.specs.declared.limits.TheConstants.{MAX_FILES, MAX_FILE_SIZE, MAX_SPANS, MAX_TOTAL}
 use Rattle.wdt_units.specs.declared.blocks.Block.{Block}
 use Rattle.wdt_units.specs.declared.blocks.Header.{Header}
 use Rattle.wdt_units.specs.Headers.{FitsHeader}
@@ -13,14 +12,13 @@ use Rattle.wdt_units.specs.Path.{is_lawful, is_reserved}
 use Rattle.wdt_ranges.specs.Spans.{has}
 use Rattle.wdt_logfmt.specs.Adding.{overlap}
 use Rattle.wdt_logfmt.specs.Batches.{is_known}
-use Rattle.wdt_logfmt.specs.Beginning.{BeginFault, KnownFile, OverLimit, SizeDiffers, begin_fault, block_of, bytes_with, files_with, first_in_both, first_shared, first_taken, free_from, free_number, is_new, is_of_file, is_taken, known_at, known_count, least_position, length_of, limit_fault, number_by, number_of, one_if, or_else, over, overlap_fault, overlap_fault_by, size_fault, size_fault_by, span_cost, span_of, spans_with, taken_spans, with_known}
-use Rattle.wdt_logfmt.specs.Landing.{IsAmong}
+use Rattle.wdt_logfmt.specs.Beginning.{BeginFault, KnownFile, OverLimit, SizeDiffers, begin_fault, block_of, bytes_with, files_with, first_in_both, first_shared, first_taken, free_number, is_new, is_of_file, is_taken, known_at, known_count, least_position, length_of, limit_fault, number_by, number_of, one_if, or_else, over, overlap_fault, overlap_fault_by, size_fault, size_fault_by, span_cost, span_of, spans_with, taken_spans, with_known}
 use Rattle.wdt_logfmt.specs.Marks.{Marked, marked_of, spans_at}
 use Rattle.wdt_logfmt.specs.View.{NamedFile}
-use Rattle.wdt_logfmt.proofs.ForCallers.{HasNumber, known_stays, new_slot, number_found, number_new}
-use Rattle.wdt_writer.specs.declared.Part.{Part}
+use Rattle.wdt_logfmt.proofs.ForCallers.{known_stays, new_slot, number_found, number_new}
+use Rattle.wdt_writer.specs.declared.parts.Part.{Part}
 use Rattle.wdt_writer.specs.OnWay.{AreApart, AreOnWay, AreSound, IsClearOf, IsOnWay}
-use Rattle.wdt_files.specs.PlainFiles.{AreFiles, AreNamed, known_of}
+use Rattle.wdt_files.specs.PlainFiles.{AreFiles, AreNamed}
 use Rattle.wdt_writer.specs.PlainWriter.{blocks_of, file_told, known_by, known_with, part_of, whole}
 
 -- ---- no position in common
@@ -257,7 +255,7 @@ module _ (known : List (Option KnownFile)) (files : List NamedFile) (h : Header)
 
 -- ---- the parts with the block
 
-part_set : (parts : List (Option Part)) (l : ℕ) (p : Part) (m : ℕ) (q : Part) → part_of (slice_set parts l (Some p)) m ≡ Some q → ((m ≡ l) × (p ≡ q)) ⊎ (part_of parts m ≡ Some q)
+pub part_set : (parts : List (Option Part)) (l : ℕ) (p : Part) (m : ℕ) (q : Part) → part_of (slice_set parts l (Some p)) m ≡ Some q → ((m ≡ l) × (p ≡ q)) ⊎ (part_of parts m ≡ Some q)
 part_set [] l p m q there = absurd (cc)
 part_set (o ∷ parts) zero p zero q there = inl (refl, (let same : p ≡ q = cc in same))
 part_set (o ∷ parts) zero p (suc m) q there = inr there

@@ -1,3 +1,10 @@
 mod Begun
+mod InTheWay
+mod Keeping
+mod Landed
+mod Laying
 mod Named
+mod OnParts
 mod Settling
+mod Started
+mod Using

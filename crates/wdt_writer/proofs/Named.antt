@@ -1,13 +1,13 @@
 -- Named files: the spans of a number, and what naming a file and laying a span over one do to them.
-use Rattle.std.proofs.Common.{◌≡◌, ◌⊎◌, inl, inr, ℕ, ◌+◌, ◌<◌, ◌≤◌, Bool, true, false, ◌&&◌, nat_lt, List, [], ◌∷◌, length, map, sum_by, Option, Some, None, refl, sym, ap, ◌∙◌, subst, arith}
+use Rattle.std.proofs.Common.{◌≡◌, ◌⊎◌, inl, inr, ℕ, Bool, true, false, nat_lt, List, [], ◌∷◌, map, refl, sym, ap, ◌∙◌, subst, arith}
 use Rattle.std.specs.Prelude.{if◌then◌else◌, ◌==◌}
 use Rattle.std.specs.List.{list_all, list_any}
-use Rattle.std.proofs.lemmas.Bool.{and_parts, cases_eq, cases_lt, eq-eqb, eqb-true, eqb-false, ne_eqb, or_parts, or_cases, or_left, or_right, both_ways, ltb-true, lt-ltb, le-ltb}
+use Rattle.std.proofs.lemmas.Bool.{and_parts, cases_eq, eq-eqb, eqb-true, ne_eqb, or_parts, or_cases, or_left, or_right, both_ways, ltb-true}
 use Rattle.wdt_units.specs.Have.{PlainSpan}
-use Rattle.wdt_logfmt.specs.Adding.{covering, have_with, just_named, put_by_number, with_span}
+use Rattle.wdt_logfmt.specs.Adding.{covering, have_with, put_by_number, with_span}
 use Rattle.wdt_logfmt.specs.Landing.{IsAmong}
-use Rattle.wdt_logfmt.specs.Marks.{Marked, is_marked_as, marked_of, spans_at}
-use Rattle.wdt_logfmt.specs.View.{NamedFile, is_file, is_numbered, is_numbered_above, is_rising}
+use Rattle.wdt_logfmt.specs.Marks.{marked_of, spans_at}
+use Rattle.wdt_logfmt.specs.View.{NamedFile, is_numbered, is_numbered_above, is_rising}
 
 -- ---- the file of a number
 

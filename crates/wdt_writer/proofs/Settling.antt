@@ -1,34 +1,33 @@
 -- A block on its way can be laid over its file, and the others stay on their way.
-use Rattle.std.proofs.Common.{◌≡◌, ◌⊎◌, inl, inr, ℕ, zero, suc, ◌+◌, ◌<◌, ◌≤◌, Bool, true, false, ◌&&◌, ◌||◌, not, nat_lt, nat_le, List, [], ◌∷◌, ◌++◌, length, map, sum_by, slice_get, Option, Some, None, refl, sym, ap, ◌∙◌, subst, arith}
+use Rattle.std.proofs.Common.{◌≡◌, inl, inr, ℕ, zero, suc, ◌+◌, ◌<◌, ◌≤◌, Bool, true, false, ◌&&◌, ◌||◌, not, nat_lt, nat_le, List, [], ◌∷◌, length, map, sum_by, Option, Some, None, refl, sym, ap, ◌∙◌, subst, arith}
 use Rattle.std.specs.Prelude.{bytes_eq, if◌then◌else◌, option_and_then, slice_set, ◌==◌}
-use Rattle.std.specs.List.{list_all, list_any}
-use Rattle.std.proofs.lemmas.Bool.{and_from, and_parts, cases_eq, cases_lt, eq-eqb, eqb-true, ne_eqb, false_from_ne_true, not_from_false, or_cases, or_left, or_right, both_ways, lt-ltb, le-leb, leb-true, ltb-true, cases_Bool}
+use Rattle.std.specs.List.{list_any}
+use Rattle.std.proofs.lemmas.Bool.{and_from, and_parts, cases_eq, eq-eqb, ne_eqb, false_from_ne_true, not_from_false, or_cases, or_left, or_right, both_ways, lt-ltb, le-leb, leb-true, ltb-true}
 use Rattle.std.proofs.lemmas.List.Sums.{sum_by-cons}
 use Rattle.std.proofs.lemmas.Slice.Eq.{bytes_eq-Decides}
-use Rattle.wdt_units.specs.declared.limits.TheConstants.{MAX_BLOCK, MAX_FILES, MAX_FILE_SIZE, MAX_SPANS, MAX_TOTAL}
+use Rattle.wdt_units.specs.declared.limits.TheConstants.{MAX_BLOCK, MAX_FILES, MAX_FILE_SIZE}
 use Rattle.wdt_units.specs.declared.blocks.Block.{Block}
 use Rattle.wdt_units.specs.Have.{PlainSpan, is_in}
 use Rattle.wdt_units.specs.Path.{is_lawful, is_reserved}
 use Rattle.wdt_ranges.specs.Adding.{HasNoneOf}
-use Rattle.wdt_ranges.specs.Spans.{are_apart, end_of, has, is_span, total_of}
-use Rattle.wdt_logfmt.specs.declared.entry.LogEntry.{LogEntry}
-use Rattle.wdt_logfmt.specs.declared.entry.LogEntry.TheVariants.{File, Covered}
-use Rattle.wdt_logfmt.specs.Adding.{all_added, can_cover, can_name, covering, has_room, have_with, is_room_in, just_named, overlap, put_by_number, span_at, with_span}
+use Rattle.wdt_ranges.specs.Spans.{are_apart, end_of, has, is_span}
+use Rattle.wdt_logfmt.specs.declared.entry.LogEntry.TheVariants.{Covered}
+use Rattle.wdt_logfmt.specs.Adding.{all_added, can_cover, can_name, covering, has_room, have_with, is_room_in, just_named, overlap, put_by_number, with_span}
 use Rattle.wdt_logfmt.specs.Batches.{block_entries, file_entry, file_entry_by, span_entry}
-use Rattle.wdt_logfmt.specs.Beginning.{KnownFile, bytes_with, is_behind, known_at, length_of, span_cost, span_of, spans_with}
+use Rattle.wdt_logfmt.specs.Beginning.{KnownFile, is_behind, known_at, length_of, span_cost, span_of}
 use Rattle.wdt_logfmt.specs.Landing.{HasRoomFor, IsAmong}
-use Rattle.wdt_logfmt.specs.Marks.{Marked, byte_count, marked_of, span_count, spans_at, with_block}
+use Rattle.wdt_logfmt.specs.Marks.{Marked, byte_count, marked_of, span_count, spans_at}
 use Rattle.wdt_logfmt.specs.Spelling.{written_version}
 use Rattle.wdt_logfmt.specs.View.{NamedFile, bytes_in, is_file, is_nameable, is_numbered, is_rising, names, spans_in}
-use Rattle.wdt_logfmt.proofs.ForCallers.{IsFile, all_added-append, batch-view, can_land, file_parts, length-beside, length-with_span, sum_covered, view_parts, with_has}
+use Rattle.wdt_logfmt.proofs.ForCallers.{IsFile, all_added-append, batch-view, can_land, file_parts, length-beside, length-with_span, view_parts, with_has}
 use Rattle.wdt_logfmt.proofs.ForCallers.{none_overlap}
 use Rattle.wdt_logfmt.proofs.ForCallers.{sum_same}
 use Rattle.wdt_ranges.proofs.ForCallers.{span_from}
-use Rattle.wdt_writer.specs.declared.Part.{Part}
+use Rattle.wdt_writer.specs.declared.parts.Part.{Part}
 use Rattle.wdt_writer.specs.OnWay.{AreApart, AreOnWay, IsClearOf, IsOnWay, IsSettled}
 use Rattle.wdt_files.specs.PlainFiles.{AreFiles, AreNamed, known_of}
-use Rattle.wdt_writer.specs.PlainWriter.{blocks_of, part_by, part_of}
-use Rattle.wdt_writer.proofs.Named.{among_covered, among_put, covered_here, covered_other, each_file, file_numbered, numbered_file, numbered_put, spans_here, spans_none, spans_of_file, spans_other, spans_put}
+use Rattle.wdt_writer.specs.PlainWriter.{blocks_of, part_of}
+use Rattle.wdt_writer.proofs.Named.{among_covered, among_put, each_file, file_numbered, numbered_file, numbered_put, spans_here, spans_of_file, spans_other, spans_put}
 
 -- ---- known files
 

@@ -10,7 +10,7 @@ use Rattle.wdt_logfmt.specs.Beginning.{KnownFile, bytes_with, known_at, span_of,
 use Rattle.wdt_logfmt.specs.Marks.{marked_of, spans_at}
 use Rattle.wdt_logfmt.specs.Spelling.{written_version}
 use Rattle.wdt_logfmt.specs.View.{NamedFile}
-use Rattle.wdt_writer.specs.declared.Part.{Part}
+use Rattle.wdt_writer.specs.declared.parts.Part.{Part}
 use Rattle.wdt_files.specs.PlainFiles.{AreFiles, AreNamed}
 use Rattle.wdt_writer.specs.PlainWriter.{blocks_of, part_of}
 

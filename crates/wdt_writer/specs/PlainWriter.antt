@@ -1,6 +1,6 @@
 -- A writer of blocks as plain data: which files are known, what the log will say of them, and which
 -- blocks are on their way.
-use Rattle.std.specs.Prelude.{ℕ, zero, suc, ◌+◌, ◌-◌, ◌&&◌, nat_le, List, [], ◌∷◌, ◌++◌, map, slice_get, slice_set, Option, Some, None, Bool, true, false, if◌then◌else◌}
+use Rattle.std.specs.Prelude.{ℕ, zero, suc, ◌+◌, ◌-◌, ◌&&◌, nat_le, List, [], ◌∷◌, ◌++◌, map, slice_get, slice_set, Option, Some, None, Bool, true, false}
 use Rattle.wdt_units.specs.declared.limits.TheConstants.{MAX_FILE_SIZE}
 use Rattle.wdt_units.specs.declared.blocks.Block.{Block}
 use Rattle.wdt_units.specs.declared.blocks.Header.{Header}
@@ -11,7 +11,7 @@ use Rattle.wdt_logfmt.specs.Batches.{block_entries, files_behind}
 use Rattle.wdt_logfmt.specs.Beginning.{KnownFile, block_of, is_new, known_files, with_known}
 use Rattle.wdt_logfmt.specs.Marks.{Marked, marked_of}
 use Rattle.wdt_logfmt.specs.View.{NamedFile}
-use Rattle.wdt_writer.specs.declared.Part.{Part}
+use Rattle.wdt_writer.specs.declared.parts.Part.{Part}
 
 -- what stood before the last landing
 pub record Earlier : Type 0 where

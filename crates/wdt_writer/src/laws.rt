@@ -5,7 +5,7 @@ ghost use Rattle.wdt_units.specs.declared.blocks.Header.{Header};
 ghost use Rattle.wdt_logfmt.specs.Beginning.{KnownFile, begin_fault, block_of};
 ghost use Rattle.wdt_logfmt.specs.Marks.{marked_of};
 ghost use Rattle.wdt_logfmt.specs.View.{NamedFile};
-ghost use Rattle.wdt_writer.specs.declared.Part.{Part};
+ghost use Rattle.wdt_writer.specs.declared.parts.Part.{Part};
 ghost use Rattle.wdt_writer.specs.OnWay.{AreSound, IsSettled};
 ghost use Rattle.wdt_writer.specs.PlainWriter.{blocks_of, known_with, part_of, whole};
 
