@@ -244,7 +244,7 @@ module _ (g : Common) (l : ℕ) (ask : Bool) (past : LanePast) (kept : List Head
   abbrev dialling : SendHold → Option Link → List Link → Option Link → ℕ → Pair
   dialling sh taken between newest n = record { send = sh; recv = rh; taken = taken; between = between; newest = newest; denies = n; refusals = refusals }
 
-  made : (c : ℕ) (taken : Option Link) (between : List Link) (newest : Option Link) (n m : ℕ) → There (dialling (SendDoes (acts.Dial record { 0 = c })) taken between newest n) → There (dialling (SendHas inputs.Linked) taken (between ++ waits newest) (Some new_link) m)
+  pub made : (c : ℕ) (taken : Option Link) (between : List Link) (newest : Option Link) (n m : ℕ) → There (dialling (SendDoes (acts.Dial record { 0 = c })) taken between newest n) → There (dialling (SendHas inputs.Linked) taken (between ++ waits newest) (Some new_link) m)
   made c taken between newest n m x =
       record {
         agrees = record { on_taken = silent_on newest x.agrees.on_taken; waiting = Each-waits (Agree Silent (Talks Open)) between newest x.agrees.waiting (λ t e. subst (λ (o : Option Link). AgreeWaiting Silent o) e x.agrees.on_newest); on_newest = inl (refl, refl) };

@@ -25,6 +25,13 @@ mod RecvAll
 mod RecvWriting
 mod RecvLaw
 mod RecvBelonging
+mod SendMoves
+mod SendSteps
+mod SendFrees
+mod SendPoints
+mod SendAll
+mod SendActs
+mod SendLaw
 mod Taking
 mod Sent
 mod Greeting

@@ -55,7 +55,7 @@ pub record Behind (s t : PlainSender) (l : ℕ) (lane : SendLane) (es : List Sen
   pub others : (j : ℕ) → j ≢ l → lane_at t j ≡ lane_at s j
 
 -- a history that grows by some entries
-past_of-append : (h es : List SendEvent) (l : ℕ) → past_of (h ++ es) l ≡ past_from l (past_of h l) es
+pub past_of-append : (h es : List SendEvent) (l : ℕ) → past_of (h ++ es) l ≡ past_from l (past_of h l) es
 past_of-append h [] l = ap (λ (g : List SendEvent). past_of g l) (append-nil h)
 past_of-append h (e ∷ es) l =
     ap (λ (g : List SendEvent). past_of g l) (sym (append_assoc h (e ∷ []) es))

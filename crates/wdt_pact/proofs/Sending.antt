@@ -31,7 +31,7 @@ use Rattle.wdt_pact.proofs.Rows.{put_still, turn_keeps, entry_keeps}
 
 -- ---- a frame was read by which nothing changes of what the connection knows
 
-noted_same : (held : SendHold) (f : Frame) (b : Bool) (act : SendAct) (rh : RecvHold) (taken : Option Link) (between : List Link) (newest : Option Link) (denies refusals : ℕ) → ((k : Link) → top_by newest taken ≡ Some k → k.greeted ≡ b)
+pub noted_same : (held : SendHold) (f : Frame) (b : Bool) (act : SendAct) (rh : RecvHold) (taken : Option Link) (between : List Link) (newest : Option Link) (denies refusals : ℕ) → ((k : Link) → top_by newest taken ≡ Some k → k.greeted ≡ b)
     → ◌≡◌ {A = Pair} record { send = SendDoes act; recv = rh; taken = taken; between = between; newest = newest; denies = denies; refusals = refusals } (send_takes record { send = held; recv = rh; taken = taken; between = between; newest = newest; denies = denies; refusals = refusals } (inputs.Got f) b act)
 noted_same held f b act rh None between None denies refusals same = refl
 noted_same held f b act rh (Some k) between None denies refusals same =

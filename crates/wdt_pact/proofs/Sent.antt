@@ -43,7 +43,7 @@ abbrev wrote : RecvHold → Option Link → List Link → Option Link → ℕ �
 wrote hold taken between newest denies refusals = record { send = SendHas inputs.Wrote; recv = hold; taken = taken; between = between; newest = newest; denies = denies; refusals = refusals }
 
 -- a lane whose block is written stands as one that wrote what is sent in all
-sent_here : (g : Common) (l : ℕ) (ask : Bool) (past after : LanePast) (kept : List Header) (r : Receiving) (hold : RecvHold) (taken : Option Link) (between : List Link) (newest : Option Link) (denies refusals : ℕ)
+pub sent_here : (g : Common) (l : ℕ) (ask : Bool) (past after : LanePast) (kept : List Header) (r : Receiving) (hold : RecvHold) (taken : Option Link) (between : List Link) (newest : Option Link) (denies refusals : ℕ)
     → after ≡ record past { claims = sent past.claims }
     → Converses g l (at_state states.SendBlocks ask past kept) r (wrote hold taken between newest denies refusals)
     → Converses g l (at_state states.SendSize ask after kept) r (wrote hold taken between newest denies refusals)

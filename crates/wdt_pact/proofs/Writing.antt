@@ -32,7 +32,7 @@ use Rattle.wdt_pact.proofs.Rows.{fares_in, stands_in}
 
 -- ---- one message more
 
-moves_one : (p q : Phase) (m : Message) → down p m ≡ Some q → moved down (m ∷ []) p ≡ Some q
+pub moves_one : (p q : Phase) (m : Message) → down p m ≡ Some q → moved down (m ∷ []) p ≡ Some q
 moves_one p q m e = ap (λ (o : Option Phase). option_and_then (moved down []) o) e
 
 -- no block more flies
@@ -261,7 +261,7 @@ module _ (g : Common) (l : ℕ) (ask : Bool) (past : LanePast) (kept : List Head
 -- ---- the steps
 
 -- an act of the sender's lane in a state, by what it makes of the lane's part
-act_keeps : (w : PlainWorld) (l : ℕ) (lost : Option ℕ) (st : SendState) (f : Frame) → Conversation w → l < length w.pairs → state_at w.sender l ≡ st → (pair_at w l).send ≡ SendDoes (acts.Write f)
+pub act_keeps : (w : PlainWorld) (l : ℕ) (lost : Option ℕ) (st : SendState) (f : Frame) → Conversation w → l < length w.pairs → state_at w.sender l ≡ st → (pair_at w l).send ≡ SendDoes (acts.Write f)
     → (Converses (common w.receiver) l (stands_in w.sender l st) (receiving w.receiver l) (record (pair_at w l) { send = SendDoes (acts.Write f) })
     → Converses (common w.receiver) l (stands_in w.sender l st) (receiving w.receiver l) (send_does (record (pair_at w l) { send = SendDoes (acts.Write f) }) lost (acts.Write f)))
     → Conversation (send_steps w l lost)

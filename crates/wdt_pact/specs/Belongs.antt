@@ -1,11 +1,13 @@
 -- What each lane holds belongs to its state.
 use Rattle.std.specs.Prelude.{◌≡◌, ℕ, ◌<◌, Bool, true, false, length}
 use Rattle.wdt_codec.specs.Frames.{Fits}
+use Rattle.wdt_codec.specs.declared.frames.Frame.{Frame}
+use Rattle.wdt_codec.specs.declared.frames.Frame.TheVariants as frames
+use Rattle.wdt_sender_fsm.specs.declared.acts.SendAct.TheVariants as acts
 use Rattle.wdt_sender_fsm.specs.declared.inputs.SendIn.TheVariants as inputs
 use Rattle.wdt_sender_fsm.specs.declared.states.SendLane.{SendLane}
 use Rattle.wdt_sender_fsm.specs.declared.states.SendState.{SendState}
 use Rattle.wdt_sender_fsm.specs.declared.states.SendState.TheVariants as states
-use Rattle.wdt_sender_fsm.specs.Phases.{FitsLane}
 use Rattle.wdt_sender_fsm.specs.PlainSender.{lane_at}
 use Rattle.wdt_sender_fsm.specs.Rows.{is_reading}
 use Rattle.wdt_receiver_fsm.specs.declared.inputs.RecvIn.TheVariants as recv_inputs
@@ -72,9 +74,24 @@ sends_linked states.Connect = false
 sends_linked states.Ended = false
 sends_linked _ = true
 
--- the same of the sender's lane, whose source may fail where it writes a block
+-- what a lane writes in a state: what the sender is, with the question that it asks, what is sent in all, that nothing
+-- more is to come, its answer to the last word, and that its end has failed
+abbrev pub SendFrameIn : SendLane → SendState → Frame → Type 0
+SendFrameIn lane states.SendSettings (frames.Settings settings) = settings.ask ≡ lane.ask
+SendFrameIn lane states.SendSize (frames.Size files bytes) = Unit {0}
+SendFrameIn lane states.SendDone frames.Done = Unit {0}
+SendFrameIn lane states.AnswerDone frames.Done = Unit {0}
+SendFrameIn lane states.SendAbort (frames.Abort code) = Unit {0}
+SendFrameIn lane state frame = ⊥
+
+-- an act of the sender's lane belongs to its state, and an input is one that comes in it: the source may fail where a
+-- block is written
 abbrev pub SendBelongs : SendHold → SendLane → Type 0
-SendBelongs (SendDoes act) lane = FitsLane lane act
+SendBelongs (SendDoes (acts.Dial conn)) lane = lane.state ≡ states.Connect
+SendBelongs (SendDoes (acts.Write frame)) lane = SendFrameIn lane lane.state frame
+SendBelongs (SendDoes (acts.SendBlock header)) lane = lane.state ≡ states.SendBlocks
+SendBelongs (SendDoes acts.Read) lane = is_reading lane.state ≡ true
+SendBelongs (SendDoes acts.Stop) lane = lane.state ≡ states.Ended
 SendBelongs (SendHas inputs.Wrote) lane = sends_writing lane.state ≡ true
 SendBelongs (SendHas (inputs.Got frame)) lane = is_reading lane.state ≡ true
 SendBelongs (SendHas inputs.Linked) lane = lane.state ≡ states.Connect

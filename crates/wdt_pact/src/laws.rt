@@ -27,7 +27,7 @@ ghost use Rattle.wdt_receiver_fsm.specs.PlainReceiver as recv;
 ghost use Rattle.wdt_receiver_fsm.specs.Rows.{is_reading as receives_in};
 ghost use Rattle.wdt_receiver_fsm.specs.Ready.{is_ready};
 ghost use Rattle.wdt_receiver_fsm.specs.Writes.{CanTell};
-ghost use Rattle.wdt_pact.specs.Belongs.{RecvBelongsAt, RecvFits};
+ghost use Rattle.wdt_pact.specs.Belongs.{RecvBelongsAt, RecvFits, SendBelongsAt};
 ghost use Rattle.wdt_pact.specs.Bytes.{FitsFront, FrontDown, FrontUp, bytes_down, bytes_up};
 ghost use Rattle.wdt_pact.specs.Conversation.{Conversation, common, receiving, sending};
 ghost use Rattle.wdt_pact.specs.Each.{Each};
@@ -42,7 +42,9 @@ ghost use Rattle.wdt_sender_fsm.specs.declared.states.SendState.{SendState};
 ghost use Rattle.wdt_receiver_fsm.specs.declared.states.RecvState.{RecvState};
 
 use wdt_receiver_fsm::receivers_stay_receivers;
-use wdt_sender_fsm::{histories_are_sound, senders_stay_senders};
+use wdt_sender_fsm::{
+    histories_are_sound, senders_stay_senders, steps_have_outcomes, steps_touch_their_lane,
+};
 
 /// A sender's lane comes to its blocks: its connection stands, what the sender is is written, and it is told
 /// its count, of which it keeps so many of its blocks, so that these are what has landed on it.
@@ -133,6 +135,18 @@ pub fn blocks_land()
         → (recv.past_at w.receiver l).begun ≡ Some b → Conversation (recv_steps w l None) }
 {
     receivers_stay_receivers();
+}
+
+/// Whatever a sender's lane holds, and wherever its source fails, behind its step the two ends of each lane fit
+/// together, and what each lane of the sender holds belongs to its state.
+pub fn a_sender_keeps_the_conversation()
+    ensures talks { (w : PlainWorld) (l : ℕ) (lost : Option ℕ) → Conversation w → Finishing w → l < length w.pairs → SendBelongsAt w l → Conversation (send_steps w l lost) }
+    ensures belongs { (w : PlainWorld) (l k : ℕ) (lost : Option ℕ) → Conversation w → l < length w.pairs → ((i : ℕ) → i < length w.pairs → SendBelongsAt w i)
+        → k < length (send_steps w l lost).pairs → SendBelongsAt (send_steps w l lost) k }
+{
+    senders_stay_senders();
+    steps_have_outcomes();
+    steps_touch_their_lane();
 }
 
 /// Whatever a receiver's lane holds, and whichever program of its calls on the disk fails, behind its step the two
