@@ -1,3 +1,4 @@
+pub mod ForCallers
 mod InSlots
 mod Kept
 mod Known
@@ -5,4 +6,5 @@ mod Landed
 mod Landing
 mod Marks
 mod Named
-mod OfLog
+mod Numbering
+mod Opened

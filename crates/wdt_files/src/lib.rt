@@ -10,5 +10,7 @@ mod files;
 mod numbers;
 mod opening;
 mod slots;
+#[cfg(test)]
+mod tests;
 
 pub use files::Files;

@@ -3,7 +3,7 @@ use Rattle.std.proofs.lemmas.List.{drop_more, drop_all}
 use Rattle.std.proofs.lemmas.List.Sums.{sum_by-cons}
 use Rattle.wdt_logfmt.specs.declared.view.LogFile.{LogFile}
 use Rattle.wdt_logfmt.specs.View.{bytes_in, named_file, named_files}
-use Rattle.wdt_files.proofs.OfLog.{log_bytes}
+use Rattle.wdt_files.proofs.Opened.{log_bytes}
 use Rattle.wdt_files.proofs.opening.bytes_of.Goals as goal
 
 pub overflow_add-bytes : goal.overflow_add-bytes

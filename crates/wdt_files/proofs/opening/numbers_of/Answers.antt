@@ -5,7 +5,7 @@ use Rattle.std.proofs.lemmas.List.{take_all}
 use Rattle.wdt_logfmt.specs.Beginning.{has_path, number_of}
 use Rattle.wdt_files.specs.declared.slots.Slot.{Slot}
 use Rattle.wdt_files.specs.Slots.{known_in}
-use Rattle.wdt_files.proofs.OfLog.{number_next}
+use Rattle.wdt_files.proofs.Numbering.{number_next}
 use Rattle.wdt_files.proofs.opening.numbers_of.Goals as goal
 
 pub loop-number-init : goal.loop-number-init

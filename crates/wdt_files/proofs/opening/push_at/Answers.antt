@@ -1,6 +1,6 @@
 use Rattle.std.proofs.Common.{◌≡◌, ◌+◌, ◌-◌, ◌++◌, ◌∷◌, [], Some, None, true, length, ap, sym, ◌∙◌, arith}
 use Rattle.wdt_files.specs.Slots.{blanks}
-use Rattle.wdt_files.proofs.OfLog.{blanks_more}
+use Rattle.wdt_files.proofs.Opened.{blanks_more}
 use Rattle.std.proofs.lemmas.List.{append-nil, length-append}
 use Rattle.wdt_files.proofs.opening.push_at.Goals as goal
 

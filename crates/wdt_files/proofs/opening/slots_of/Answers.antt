@@ -5,7 +5,7 @@ use Rattle.wdt_logfmt.specs.declared.view.LogFile.{LogFile}
 use Rattle.wdt_logfmt.specs.View.{named_files}
 use Rattle.wdt_logfmt.proofs.ForCallers.{view_parts}
 use Rattle.wdt_files.proofs.Named.{file_of}
-use Rattle.wdt_files.proofs.OfLog.{IsOpened, opened_files, opened_more, opened_none}
+use Rattle.wdt_files.proofs.Opened.{IsOpened, opened_files, opened_more, opened_none}
 use Rattle.wdt_files.proofs.opening.slots_of.Goals as goal
 
 pub loop-file-init : goal.loop-file-init

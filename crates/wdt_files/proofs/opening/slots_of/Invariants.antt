@@ -1,6 +1,6 @@
 use Rattle.std.proofs.Common.{drop}
 use Rattle.wdt_logfmt.specs.View.{named_files}
-use Rattle.wdt_files.proofs.OfLog.{IsOpened}
+use Rattle.wdt_files.proofs.Opened.{IsOpened}
 use Rattle.wdt_files.proofs.opening.slots_of.Given as goal
 
 abbrev pub invariant-loop-file : goal.invariant-loop-file

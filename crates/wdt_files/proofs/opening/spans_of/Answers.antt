@@ -3,7 +3,7 @@ use Rattle.std.proofs.lemmas.List.{drop_more, drop_all}
 use Rattle.std.proofs.lemmas.List.Sums.{sum_by-cons}
 use Rattle.wdt_logfmt.specs.declared.view.LogFile.{LogFile}
 use Rattle.wdt_logfmt.specs.View.{spans_in, named_file, named_files}
-use Rattle.wdt_files.proofs.OfLog.{log_spans}
+use Rattle.wdt_files.proofs.Opened.{log_spans}
 use Rattle.wdt_files.proofs.opening.spans_of.Goals as goal
 
 pub overflow_add-spans : goal.overflow_add-spans

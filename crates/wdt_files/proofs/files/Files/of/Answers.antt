@@ -7,7 +7,8 @@ use Rattle.wdt_files.specs.declared.slots.Slot.{Slot}
 use Rattle.wdt_files.specs.PlainFiles.{files_of}
 use Rattle.wdt_files.specs.Slots.{known_in}
 use Rattle.wdt_files.proofs.Kept.{few_slots}
-use Rattle.wdt_files.proofs.OfLog.{AreOnce, lawful_log, log_counts}
+use Rattle.wdt_files.proofs.Numbering.{AreOnce}
+use Rattle.wdt_files.proofs.Opened.{lawful_log, log_counts}
 use Rattle.wdt_files.proofs.files.Files.of.Goals as goal
 
 pub numbers_of-requires-clause-once : goal.numbers_of-requires-clause-once

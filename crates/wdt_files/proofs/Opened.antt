@@ -1,9 +1,9 @@
 -- The slots, numbers and counts of the files of a log.
-use Rattle.std.proofs.Common.{◌≡◌, ◌⊎◌, inl, inr, ℕ, zero, suc, ◌+◌, ◌-◌, ◌<◌, ◌≤◌, Bool, true, false, ◌&&◌, not, nat_lt, nat_le, List, [], ◌∷◌, ◌++◌, length, map, get_or, sum_by, take, Option, Some, None, refl, sym, ap, ◌∙◌, subst, arith, append_assoc}
-use Rattle.std.specs.Prelude.{bytes_eq, cond, if◌then◌else◌, is_some}
+use Rattle.std.proofs.Common.{◌≡◌, ◌⊎◌, inl, inr, ℕ, zero, suc, ◌+◌, ◌-◌, ◌<◌, ◌≤◌, Bool, true, false, ◌&&◌, not, nat_lt, nat_le, List, [], ◌∷◌, ◌++◌, length, map, sum_by, Option, Some, None, refl, sym, ap, ◌∙◌, subst, arith, append_assoc}
+use Rattle.std.specs.Prelude.{bytes_eq, cond, is_some}
 use Rattle.std.specs.List.{list_all}
 use Rattle.std.proofs.lemmas.Bool.{and_parts, both_ways, leb-true, ltb-true, not-true, or_left, or_right}
-use Rattle.std.proofs.lemmas.List.{append-nil, length-append, length-map, length-take-le, map-append, take-map, take_more}
+use Rattle.std.proofs.lemmas.List.{append-nil, length-append, length-map, map-append}
 use Rattle.std.proofs.lemmas.List.Sums.{sum_by-cons}
 use Rattle.std.proofs.lemmas.Slice.Eq.{bytes_eq-Decides}
 use Rattle.wdt_units.specs.declared.limits.TheConstants.{MAX_FILES, MAX_FILE_SIZE, MAX_SPANS, MAX_TOTAL}
@@ -11,17 +11,17 @@ use Rattle.wdt_units.specs.Have.{HaveFile}
 use Rattle.wdt_units.specs.Path.{is_lawful, is_reserved}
 use Rattle.wdt_ranges.specs.declared.have.FileHave.{FileHave}
 use Rattle.wdt_ranges.specs.Files.{have_file}
-use Rattle.wdt_logfmt.specs.Beginning.{KnownFile, empty_slots, has_path, known_at, known_count, known_files, number_of, slots_from}
+use Rattle.wdt_logfmt.specs.Beginning.{KnownFile, empty_slots, known_at, known_count, known_files, slots_from}
 use Rattle.wdt_logfmt.specs.Landing.{IsAmong}
 use Rattle.wdt_logfmt.specs.Marks.{marked_of}
 use Rattle.wdt_logfmt.specs.Marks.{bytes_in as marked_bytes, spans_in as marked_spans}
 use Rattle.wdt_logfmt.specs.View.{NamedFile, are_paths_once, bytes_in, is_file, is_numbered_above, is_rising, is_view, names, spans_in}
-use Rattle.wdt_logfmt.proofs.ForCallers.{IsView, file_parts, number_found, view_parts}
+use Rattle.wdt_logfmt.proofs.ForCallers.{IsView, file_parts, view_parts}
 use Rattle.wdt_files.specs.declared.slots.Slot.{Slot}
 use Rattle.wdt_files.specs.PlainFiles.{AreFiles, AreLawful, PlainFiles, files_of, known_of}
 use Rattle.wdt_files.specs.Slots.{AreBare, blanks, have_in, known_in, named_from, plain_files, slot_at}
 use Rattle.wdt_files.proofs.Kept.{lawful_slots}
-use Rattle.wdt_files.proofs.Known.{count_least, number_free, number_more}
+use Rattle.wdt_files.proofs.Known.{count_least}
 use Rattle.wdt_files.proofs.Marks.{bytes_summed, spans_summed}
 use Rattle.wdt_files.proofs.Named.{file_of, named_more}
 
@@ -58,6 +58,14 @@ opened_none slots all none up = subst (λ (ss : List (Option Slot)). IsOpened ss
 known_blanks : (n : ℕ) → map known_in (blanks n) ≡ empty_slots n
 known_blanks zero = refl
 known_blanks (suc n) = ap (λ w. None ∷ w) (known_blanks n)
+
+-- one more free slot behind others
+pub blanks_more : (old slots : List (Option Slot)) (k m : ℕ) → m ≡ k + 1 → slots ≡ old ++ blanks k → slots ++ None ∷ [] ≡ old ++ blanks m
+blanks_more old slots k m next is = ap (λ (ss : List (Option Slot)). ss ++ None ∷ []) is ∙ append_assoc old (blanks k) (None ∷ []) ∙ ap (λ (ss : List (Option Slot)). old ++ ss) (end k ∙ ap blanks (let e : suc k ≡ m = omega arith in e))
+  where
+    end : (k : ℕ) → blanks k ++ None ∷ [] ≡ blanks (suc k)
+    end zero = refl
+    end (suc k) = ap (λ w. None ∷ w) (end k)
 
 length_blanks : (n : ℕ) → length (blanks n) ≡ n
 length_blanks zero = refl
@@ -154,18 +162,18 @@ named_known n (f ∷ fs) k file above there = elim (skipped (f.number - n) (know
 ]
 
 -- what holds of all files holds of one
-each_file : (p : NamedFile → Bool) (g : NamedFile) (fs : List NamedFile) → list_all p fs ≡ true → IsAmong g fs → p g ≡ true
+pub each_file : (p : NamedFile → Bool) (g : NamedFile) (fs : List NamedFile) → list_all p fs ≡ true → IsAmong g fs → p g ≡ true
 each_file p g [] all among = absurd among
 each_file p g (f ∷ fs) all (inl is) = subst (λ (x : NamedFile). p x ≡ true) is (and_parts (p f) (list_all p fs) all).0
 each_file p g (f ∷ fs) all (inr more) = each_file p g fs (and_parts (p f) (list_all p fs) all).1 more
 
-path_named : (fs : List NamedFile) (g : NamedFile) (path : List ℕ) → IsAmong g fs → g.have.path ≡ path → names fs path ≡ true
+pub path_named : (fs : List NamedFile) (g : NamedFile) (path : List ℕ) → IsAmong g fs → g.have.path ≡ path → names fs path ≡ true
 path_named [] g path among same = absurd among
 path_named (f ∷ fs) g path (inl is) same = or_left (bytes_eq f.have.path path) (names fs path) ((bytes_eq-Decides f.have.path path).1 (ap (λ (x : NamedFile). x.have.path) is ∙ same))
 path_named (f ∷ fs) g path (inr later) same = or_right (bytes_eq f.have.path path) (names fs path) (path_named fs g path later same)
 
 -- files of one path are the same
-one_path : (fs : List NamedFile) (a b : NamedFile) → are_paths_once fs ≡ true → IsAmong a fs → IsAmong b fs → a.have.path ≡ b.have.path → a ≡ b
+pub one_path : (fs : List NamedFile) (a b : NamedFile) → are_paths_once fs ≡ true → IsAmong a fs → IsAmong b fs → a.have.path ≡ b.have.path → a ≡ b
 one_path [] a b once one two same = absurd one
 one_path (f ∷ fs) a b once (inl x) (inl y) same = sym x ∙ y
 one_path (f ∷ fs) a b once (inl x) (inr y) same =
@@ -182,7 +190,7 @@ pub record IsAFile (f : NamedFile) : Type 0 where
   pub free : is_reserved f.have.path ≡ false
   pub small : f.have.size ≤ MAX_FILE_SIZE
 
-a_file : (f : NamedFile) → is_file f ≡ true → IsAFile f
+pub a_file : (f : NamedFile) → is_file f ≡ true → IsAFile f
 a_file f is =
     let able = (file_parts f is).nameable in
     let a = and_parts (nat_lt f.number MAX_FILES && is_lawful f.have.path && not (is_reserved f.have.path)) (nat_le f.have.size MAX_FILE_SIZE) able in
@@ -248,64 +256,6 @@ log_counts slots fs seen view = record {
   bytes = ap (λ (f : PlainFiles). marked_bytes (map marked_of f.named)) seen ∙ bytes_summed fs;
   few = omega (arith, count_slots 0 fs, count_least (known_files fs), (log_files fs view).few);
 }
-
--- ---- the numbers of the paths
-
-take_known : (known : List (Option KnownFile)) (i m : ℕ) (file : KnownFile) → known_at (take i known) m ≡ Some file → (m < i) × (known_at known m ≡ Some file)
-take_known known zero m file there = absurd (cc)
-take_known [] (suc i) m file there = absurd (cc)
-take_known (o ∷ known) (suc i) zero file there = (omega arith, there)
-take_known (o ∷ known) (suc i) (suc m) file there = (let r = take_known known i m file there in (omega (arith, r.0), r.1))
-
-abbrev pub AreOnce : List (Option KnownFile) → Type 0
-AreOnce known = (m n : ℕ) (f g : KnownFile) → known_at known m ≡ Some f → known_at known n ≡ Some g → f.path ≡ g.path → m ≡ n
-
-not_before : (known : List (Option KnownFile)) (i : ℕ) (file : KnownFile) → AreOnce known → known_at known i ≡ Some file → number_of (take i known) file.path ≡ None
-not_before known i file once here = go (number_of (take i known) file.path) refl
-  where
-    go : (o : Option ℕ) → number_of (take i known) file.path ≡ o → o ≡ None
-    go None e = refl
-    go (Some m) e =
-        let r = number_found (take i known) file.path m e in
-        let t = take_known known i m r.file r.there in
-        absurd (omega (arith, t.0, once m i r.file file t.1 here r.path_is))
-
-known_read : (known : List (Option KnownFile)) (i : ℕ) (o : Option KnownFile) → i < length known → o ≡ get_or known i o → known_at known i ≡ o
-known_read [] i o lt is = absurd (omega arith)
-known_read (p ∷ known) zero o lt is = sym is
-known_read (p ∷ known) (suc i) o lt is = known_read known i o (omega arith) is
-
-number_step : (known : List (Option KnownFile)) (i : ℕ) (o : Option KnownFile) (path : List ℕ) → AreOnce known → i < length known → o ≡ get_or known i o
-    → number_of (take (i + 1) known) path ≡ (if has_path path o then Some i else number_of (take i known) path)
-number_step known i o path once lt is =
-    ap (λ (k : List (Option KnownFile)). number_of k path) (take_more known i o lt ∙ ap (λ (p : Option KnownFile). take i known ++ p ∷ []) (sym is)) ∙ go o (known_read known i o lt is)
-  where
-    long : i ≡ 0 + length (take i known)
-    long = omega (arith, length-take-le i known (omega arith))
-
-    go : (p : Option KnownFile) → known_at known i ≡ p → number_of (take i known ++ p ∷ []) path ≡ (if has_path path p then Some i else number_of (take i known) path)
-    go None here = number_free 0 (take i known) path
-    go (Some file) here = number_more 0 i (take i known) file path long (not_before known i file once here)
-
-slot_known : (slots : List (Option Slot)) (i : ℕ) (o : Option Slot) → i < length slots → o ≡ get_or slots i o → known_in o ≡ get_or (map known_in slots) i (known_in o)
-slot_known [] i o lt is = absurd (omega arith)
-slot_known (p ∷ slots) zero o lt is = ap known_in is
-slot_known (p ∷ slots) (suc i) o lt is = slot_known slots i o (omega arith) is
-
-pub number_next : (slots : List (Option Slot)) (i : ℕ) (o : Option Slot) (path : List ℕ) → AreOnce (map known_in slots) → i < length slots → o ≡ get_or slots i o
-    → number_of (map known_in (take (i + 1) slots)) path ≡ (if has_path path (known_in o) then Some i else number_of (map known_in (take i slots)) path)
-number_next slots i o path once lt is =
-    ap (λ (k : List (Option KnownFile)). number_of k path) (sym (take-map known_in (i + 1) slots))
-    ∙ number_step (map known_in slots) i (known_in o) path once (omega (arith, length-map slots known_in)) (slot_known slots i o lt is)
-    ∙ ap (λ (k : List (Option KnownFile)). if has_path path (known_in o) then Some i else number_of k path) (take-map known_in i slots)
-
--- one more free slot behind others
-pub blanks_more : (old slots : List (Option Slot)) (k m : ℕ) → m ≡ k + 1 → slots ≡ old ++ blanks k → slots ++ None ∷ [] ≡ old ++ blanks m
-blanks_more old slots k m next is = ap (λ (ss : List (Option Slot)). ss ++ None ∷ []) is ∙ append_assoc old (blanks k) (None ∷ []) ∙ ap (λ (ss : List (Option Slot)). old ++ ss) (end k ∙ ap blanks (let e : suc k ≡ m = omega arith in e))
-  where
-    end : (k : ℕ) → blanks k ++ None ∷ [] ≡ blanks (suc k)
-    end zero = refl
-    end (suc k) = ap (λ w. None ∷ w) (end k)
 
 -- ---- the limits of a log
 
