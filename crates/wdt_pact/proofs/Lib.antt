@@ -32,6 +32,8 @@ mod SendPoints
 mod SendAll
 mod SendActs
 mod SendLaw
+mod Fitting
+mod Steps
 mod Taking
 mod Sent
 mod Greeting

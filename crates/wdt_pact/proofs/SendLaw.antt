@@ -58,7 +58,7 @@ module _ (keeps : SenderKeeps) (comes : (s : PlainSender) (k : Lane) (i : SendIn
   writes st frame here f is = absurd f
 
   -- what was read lies in the grammar's ranges
-  fits : (input : SendIn) → (pair_at w l).send ≡ SendHas input → FitsIn input
+  pub fits : (input : SendIn) → (pair_at w l).send ≡ SendHas input → FitsIn input
   fits input is = of input (subst (λ (x : SendHold). Each Fits (upward_by (pair_at w l).newest (pair_at w l).taken x (pair_at w l).recv)) is (c.lanes l within).fits) where
     of : (i : SendIn) → Each Fits (upward_by (pair_at w l).newest (pair_at w l).taken (SendHas i) (pair_at w l).recv) → FitsIn i
     of (inputs.Got frame) e = e.0

@@ -8,5 +8,6 @@ pub mod Belongs
 pub mod Conversation
 pub mod Bytes
 pub mod Finishing
+pub mod Fitting
 pub mod Progress
 pub mod Measure

@@ -32,18 +32,20 @@ ghost use Rattle.wdt_pact.specs.Bytes.{FitsFront, FrontDown, FrontUp, bytes_down
 ghost use Rattle.wdt_pact.specs.Conversation.{Conversation, common, receiving, sending};
 ghost use Rattle.wdt_pact.specs.Each.{Each};
 ghost use Rattle.wdt_pact.specs.Finishing.{Finishing};
+ghost use Rattle.wdt_pact.specs.Fitting.{IsSound, lane_of};
 ghost use Rattle.wdt_pact.specs.Links.{Link, front, size_down, size_up};
 ghost use Rattle.wdt_pact.specs.Lists.{Splits};
 ghost use Rattle.wdt_pact.specs.Pairs.{RecvDoes, RecvHas, RecvHold, RecvTook, SendDoes, SendHas, SendHold};
 ghost use Rattle.wdt_pact.specs.Progress.{Holds, Moves};
 ghost use Rattle.wdt_pact.specs.Stances.{Agrees, Stance};
-ghost use Rattle.wdt_pact.specs.World.{Cut, PlainWorld, happens, number, pair_at, recv_steps, send_steps};
+ghost use Rattle.wdt_pact.specs.World.{Cut, PlainWorld, WorldEvent, happens, number, pair_at, recv_steps, send_steps};
 ghost use Rattle.wdt_sender_fsm.specs.declared.states.SendState.{SendState};
 ghost use Rattle.wdt_receiver_fsm.specs.declared.states.RecvState.{RecvState};
 
 use wdt_receiver_fsm::receivers_stay_receivers;
 use wdt_sender_fsm::{
-    histories_are_sound, senders_stay_senders, steps_have_outcomes, steps_touch_their_lane,
+    histories_are_sound, senders_stay_senders, steps_answer_rightly, steps_have_outcomes,
+    steps_touch_their_lane,
 };
 
 /// A sender's lane comes to its blocks: its connection stands, what the sender is is written, and it is told
@@ -159,6 +161,19 @@ pub fn a_receiver_keeps_the_conversation()
         → k < length (recv_steps w l broken).pairs → RecvBelongsAt (recv_steps w l broken) k }
 {
     histories_are_sound();
+}
+
+/// Whatever happens to a sound world, a step of either end, a cut, or a try to make or to take a connection that is to
+/// fail, it stays sound: the ends of each lane fit together, what each lane holds belongs to its state, and what is
+/// said lies in the grammar's ranges.
+pub fn every_event_keeps_a_world_sound()
+    ensures { (w : PlainWorld) (e : WorldEvent) → IsSound w → Finishing w → lane_of e < length w.pairs → IsSound (happens w e) }
+{
+    histories_are_sound();
+    senders_stay_senders();
+    steps_answer_rightly();
+    steps_have_outcomes();
+    steps_touch_their_lane();
 }
 
 /// Where a lane reads that nothing more is to come, and the receiver is ready for the finish with it, no block

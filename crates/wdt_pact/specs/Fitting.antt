@@ -1,0 +1,66 @@
+-- What goes down lies in the grammar's ranges, both ends keep to theirs, and what every world without a stop keeps.
+use Rattle.std.specs.Prelude.{◌≡◌, ℕ, ◌<◌, ◌≤◌, ◌-◌, ◌^◌, length, slice_get, Option, Some, None}
+use Rattle.wdt_units.specs.Headers.{FitsHeader}
+use Rattle.wdt_codec.specs.Frames.{Fits}
+use Rattle.wdt_sender_fsm.specs.declared.acts.SendAct.TheVariants as acts
+use Rattle.wdt_sender_fsm.specs.Phases.{Message, Framed, Piece}
+use Rattle.wdt_sender_fsm.specs.Writes.{IsLawful}
+use Rattle.wdt_tree.specs.declared.entry.Entry.{Entry}
+use Rattle.wdt_receiver_fsm.specs.Writes.{CanTell}
+use Rattle.wdt_pact.specs.Belongs.{Belongs}
+use Rattle.wdt_pact.specs.Conversation.{Conversation}
+use Rattle.wdt_pact.specs.Each.{Each}
+use Rattle.wdt_pact.specs.Links.{Link}
+use Rattle.wdt_pact.specs.Lists.{in_hand}
+use Rattle.wdt_pact.specs.Pairs.{Pair, SendHold, SendDoes}
+use Rattle.wdt_pact.specs.World.{PlainWorld, WorldEvent, Sends, Receives, Cut, Deny, Refuse, pair_at}
+
+-- a message lies in the grammar's ranges
+abbrev pub FitsMessage : Message → Type 0
+FitsMessage (Framed frame) = Fits frame
+FitsMessage (Piece n) = Unit {0}
+
+-- what the sender's lane is about to write does
+abbrev pub SendsFit : SendHold → Type 0
+SendsFit (SendDoes (acts.Write frame)) = Fits frame
+SendsFit (SendDoes (acts.SendBlock header)) = FitsHeader header
+SendsFit _ = Unit {0}
+
+-- what goes down on a connection does
+abbrev pub DownFits : Link → Type 0
+DownFits k = Each FitsMessage k.down.sent
+
+-- the same, where there is one
+abbrev pub DownFitsBy : Option Link → Type 0
+DownFitsBy None = Unit {0}
+DownFitsBy (Some k) = DownFits k
+
+-- all that the sender's lane writes, what goes down on its connections, and what the receiver's lane has read
+pub record FitsDown (p : Pair) : Type 0 where
+  pub hand : Each FitsMessage (in_hand p.recv)
+  pub says : SendsFit p.send
+  pub taken : DownFitsBy p.taken
+  pub between : Each DownFits p.between
+  pub newest : DownFitsBy p.newest
+
+-- the sender is within its limits, each stamp is one of 64 bits, the receiver can tell what its log said as it was
+-- opened, and what goes down on each lane lies in the grammar's ranges
+pub record Fitting (w : PlainWorld) : Type 0 where
+  pub sender : IsLawful w.sender
+  pub stamps : (file : ℕ) (entry : Entry) → slice_get w.sender.manifest file ≡ Some entry → entry.stamp ≤ 2 ^ 64 - 1
+  pub receiver : CanTell w.receiver
+  pub down : (l : ℕ) → l < length w.pairs → FitsDown (pair_at w l)
+
+-- The ends of each lane fit together, what each lane holds belongs to its state, and what is said lies in the grammar.
+pub record IsSound (w : PlainWorld) : Type 0 where
+  pub talk : Conversation w
+  pub belongs : Belongs w
+  pub fits : Fitting w
+
+-- the lane that an event is of
+abbrev pub lane_of : WorldEvent → ℕ
+lane_of (Sends l lost) = l
+lane_of (Receives l broken) = l
+lane_of (Cut l down up) = l
+lane_of (Deny l) = l
+lane_of (Refuse l) = l
