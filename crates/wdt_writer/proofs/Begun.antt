@@ -87,7 +87,7 @@ none_begun (Some p ∷ parts) n s m q k e there same a b = go m (p.block.file ==
 
 -- ---- what the absence of a fault says
 
-none_of : (x y : Option BeginFault) → or_else x y ≡ None → (x ≡ None) × (y ≡ None)
+pub none_of : (x y : Option BeginFault) → or_else x y ≡ None → (x ≡ None) × (y ≡ None)
 none_of None y e = (refl, e)
 none_of (Some f) y e = absurd (cc)
 
@@ -123,7 +123,7 @@ module _ (known : List (Option KnownFile)) (files : List NamedFile) (parts : Lis
   abbrev b : Block
   b = block_of known h
 
-  taken_none : (o : Option ℕ) → overlap_fault_by o ≡ None → o ≡ None
+  pub taken_none : (o : Option ℕ) → overlap_fault_by o ≡ None → o ≡ None
   taken_none None e = refl
   taken_none (Some p) e = absurd (cc)
 

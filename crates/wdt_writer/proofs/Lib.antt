@@ -5,6 +5,7 @@ mod Landed
 mod Laying
 mod Named
 mod OnParts
+mod Placed
 mod Settling
 mod Started
 mod Using

@@ -1,25 +1,22 @@
 //! A writer of blocks.
-ghost use Rattle.std.specs.Prelude.{◌≡◌, ◌+◌, ◌<◌, ◌≤◌, [], true, length, map, option_map, sum_by, IfErr, IfOk, IsErrOf, IsSome, IsTrue, None, OnErr, OnOk, Some};
+ghost use Rattle.std.specs.Prelude.{◌≡◌, ◌+◌, ◌<◌, ◌≤◌, [], true, length, IfErr, IfOk, IsErrOf, IsSome, IsTrue, None, OnErr, OnOk, Some};
 ghost use Rattle.wdt_units.specs.declared.limits.TheConstants.{MAX_LANES, PIECE};
 ghost use Rattle.wdt_units.specs.Headers.{FitsHeader};
 ghost use Rattle.wdt_depot.specs.Disk.{wrote};
 ghost use Rattle.wdt_depot.specs.Moments.{IfTold};
-ghost use Rattle.wdt_logfmt.specs.Batches.{is_known, numbers_of, path_at};
-ghost use Rattle.wdt_logfmt.specs.Beginning.{block_of, is_new, known_at, length_of};
-ghost use Rattle.wdt_logfmt.specs.Marks.{bytes_in};
+ghost use Rattle.wdt_logfmt.specs.Beginning.{block_of, is_new};
 ghost use Rattle.wdt_logfmt.specs.View.{is_view, named_files};
 ghost use Rattle.wdt_good.specs.Calls.{run_piece};
 ghost use Rattle.wdt_writer.specs.Answers.{IsAnswered, IsNoRefusal, IsSameOrSettled, fault_at};
 ghost use Rattle.wdt_writer.specs.Calls.{CanMake, CanWrite, UsesDisk, path_begun, place_begun};
-ghost use Rattle.wdt_writer.specs.Kept.{told_of};
-ghost use Rattle.wdt_writer.specs.PlainWriter.{all_logged, begins, begun_at, begun_on, drops, gives_back, lands, marks, opened, part_at, run_begin, taken_back, takes};
+ghost use Rattle.wdt_writer.specs.PlainWriter.{all_logged, begins, begun_at, begun_on, drops, gives_back, lands, opened, part_at, run_begin, taken_back, takes};
+
+mod asking;
 
 use crate::beginning::number_for;
 use crate::fail::WriteFail;
 use crate::faults::fault;
-use crate::landing::{
-    Last, Stood, append_entries, bytes_with, keep_landed, named_with, numbers_of, paths_of, settle,
-};
+use crate::landing::{Last, Stood, append_entries, keep_landed, settle};
 use crate::parts::{Part, part_on, place_of, whole};
 use crate::writing::write_to;
 use std::alloc::Global;
@@ -27,7 +24,7 @@ use std::marker::Model;
 use wdt_depot::Depot;
 use wdt_files::Files;
 use wdt_logfmt::{LogEntry, LogView};
-use wdt_units::{Block, Header, Lane, Name, NoMemory};
+use wdt_units::{Block, Header, Lane, NoMemory};
 
 /// Blocks on their way into files, and what is to be logged of those that landed.
 ///
@@ -77,156 +74,6 @@ impl Writer {
             parts,
             last: None,
         })
-    }
-
-    /// The last landing is taken back, where that can be. It takes no memory.
-    pub fn unland(&mut self)
-        ensures { self.new ≡ taken_back self.old }
-    {
-        let Some(last) = self.last else {
-            return;
-        };
-        let Some(stood) = last.before else {
-            return;
-        };
-        self.pending.truncate(stood.entries);
-        self.unlogged.truncate(stood.blocks);
-        self.unlogged_bytes = stood.bytes;
-        self.parts[stood.lane.0 as usize] = Some(Part {
-            block: last.block,
-            left: 0,
-        });
-        self.last = None;
-    }
-
-    /// So many bytes of the lane's block are to come again. It takes no memory.
-    pub fn unpiece(&mut self, lane: Lane, count: u32)
-        requires begun { IsSome (part_at self.old lane.0) }
-        requires written { (begun_at self.old lane.0).left + count ≤ (begun_at self.old lane.0).block.length }
-        ensures { self.new ≡ gives_back self.old lane.0 count }
-    {
-        keep_landed(&mut self.last);
-        if let Some(part) = part_on(&self.parts, lane) {
-            self.parts[lane.0 as usize] = Some(Part {
-                block: part.block,
-                left: part.left + count,
-            });
-        }
-    }
-
-    /// The lane's block isn't begun any more. It takes no memory.
-    pub fn drop_part(&mut self, lane: Lane)
-        requires { lane.0 < length (self.old).parts }
-        ensures { self.new ≡ drops self.old lane.0 }
-    {
-        self.parts[lane.0 as usize] = None;
-        keep_landed(&mut self.last);
-    }
-
-    /// All that landed is logged.
-    pub fn logged(&mut self)
-        ensures { self.new ≡ all_logged self.old }
-    {
-        self.pending.clear();
-        self.unlogged.clear();
-        self.unlogged_bytes = 0;
-        keep_landed(&mut self.last);
-    }
-
-    /// What is to be logged of the blocks that landed since all was logged.
-    pub fn pending(&self) -> &[LogEntry]
-        ensures { result.now ≡ (self.now).pending }
-    {
-        &self.pending
-    }
-
-    /// The blocks that landed since all was logged, in the order in which they landed.
-    pub fn unlogged(&self) -> &[Block]
-        ensures { result.now ≡ (self.now).unlogged }
-    {
-        &self.unlogged
-    }
-
-    /// How many bytes the blocks have that landed since all was logged.
-    pub fn unlogged_bytes(&self) -> u64
-        ensures { result ≡ sum_by length_of (self.now).unlogged }
-    {
-        self.unlogged_bytes
-    }
-
-    /// The path, size and stamp of the known file of a number.
-    pub fn file(&self, number: u32) -> (&Name, u64, u64)
-        requires { IsTrue (is_known (self.now).known number) }
-        ensures { known_at (self.now).known number ≡ Some (record { path = (result.0).now; size = result.1; stamp = result.2 }) }
-    {
-        self.files.file(number)
-    }
-
-    /// Of the block that is begun on a lane: the path of its file, where its next byte goes there, and how
-    /// many bytes are left.
-    pub fn begun(&self, lane: Lane) -> Option<(&Name, u64, u32)>
-        ensures { option_map (λ told. ((told.0).now, told.1, told.2)) result ≡ option_map (told_of (self.now).known) (part_at self.now lane.0) }
-    {
-        let part = part_on(&self.parts, lane)?;
-        let (path, _, _) = self.files.file(part.block.file);
-        Some((path, place_of(part), part.left))
-    }
-
-    /// How many files are named, with all that landed.
-    pub fn files(&self) -> u32
-        ensures { result ≡ length (self.now).files }
-    {
-        named_with(&self.files, self.last)
-    }
-
-    /// How many bytes are there in all files together, with all that landed.
-    pub fn bytes(&self) -> u64
-        ensures { result ≡ bytes_in (marks self.now) }
-    {
-        bytes_with(&self.files, self.last)
-    }
-
-    /// The paths of the files of the blocks that landed since all was logged, by the numbers of the files,
-    /// each once.
-    pub fn dirty(&self, alloc: Global) -> Result<Vec<&Name>, NoMemory>
-        ensures { IfOk result (λ paths. map (λ path. path.now) paths.items ≡ map (path_at (self.now).known) (numbers_of (self.now).unlogged)) }
-    {
-        let numbers = numbers_of(alloc, &self.unlogged)?;
-        paths_of(alloc, &self.files, &numbers)
-    }
-
-    /// The lane's block lands, of which no byte is left. After want of memory nothing has changed, but that
-    /// the landing before can't be taken back any more.
-    pub fn land(&mut self, lane: Lane) -> Result<Block, NoMemory>
-        requires begun { IsSome (part_at self.old lane.0) }
-        requires whole { (begun_at self.old lane.0).left ≡ 0 }
-        ensures block { IfOk result (λ block. block ≡ (begun_at self.old lane.0).block) }
-        ensures landed { OnOk result (self.new ≡ lands self.old lane.0 (begun_at self.old lane.0).block) }
-        ensures unchanged { OnErr result (IsSameOrSettled self.old self.new) }
-    {
-        settle(&mut self.files, &mut self.last)?;
-        let Some(part) = part_on(&self.parts, lane) else {
-            unreachable!();
-        };
-        if self.unlogged.reserve(1).is_err() {
-            return Err(NoMemory);
-        }
-        let entries = self.pending.len();
-        append_entries(&self.files, part.block, &mut self.pending)?;
-        let stood = Stood {
-            lane,
-            entries,
-            blocks: self.unlogged.len(),
-            bytes: self.unlogged_bytes,
-        };
-        self.unlogged.push_reserved(part.block);
-        self.unlogged_bytes += u64::from(part.block.length);
-        self.parts[lane.0 as usize] = None;
-        self.last = Some(Last {
-            block: part.block,
-            before: Some(stood),
-        });
-        Ok(part.block)
     }
 
     /// Begins the header's block on a lane on which none is begun. Where its file is new, the file is made
@@ -306,5 +153,149 @@ impl Writer {
         });
         keep_landed(&mut self.last);
         Ok(left)
+    }
+
+    /// So many bytes of the lane's block are to come again. It takes no memory.
+    pub fn unpiece(&mut self, lane: Lane, count: u32)
+        requires begun { IsSome (part_at self.old lane.0) }
+        requires written { (begun_at self.old lane.0).left + count ≤ (begun_at self.old lane.0).block.length }
+        ensures { self.new ≡ gives_back self.old lane.0 count }
+    {
+        keep_landed(&mut self.last);
+        if let Some(part) = part_on(&self.parts, lane) {
+            self.parts[lane.0 as usize] = Some(Part {
+                block: part.block,
+                left: part.left + count,
+            });
+        }
+    }
+
+    /// The lane's block lands, of which no byte is left. After want of memory nothing has changed, but that
+    /// the landing before can't be taken back any more.
+    pub fn land(&mut self, lane: Lane) -> Result<Block, NoMemory>
+        requires begun { IsSome (part_at self.old lane.0) }
+        requires whole { (begun_at self.old lane.0).left ≡ 0 }
+        ensures block { IfOk result (λ block. block ≡ (begun_at self.old lane.0).block) }
+        ensures landed { OnOk result (self.new ≡ lands self.old lane.0 (begun_at self.old lane.0).block) }
+        ensures unchanged { OnErr result (IsSameOrSettled self.old self.new) }
+    {
+        settle(&mut self.files, &mut self.last)?;
+        let Some(part) = part_on(&self.parts, lane) else {
+            unreachable!();
+        };
+        if self.unlogged.reserve(1).is_err() {
+            return Err(NoMemory);
+        }
+        let entries = self.pending.len();
+        append_entries(&self.files, part.block, &mut self.pending)?;
+        let stood = Stood {
+            lane,
+            entries,
+            blocks: self.unlogged.len(),
+            bytes: self.unlogged_bytes,
+        };
+        self.unlogged.push_reserved(part.block);
+        self.unlogged_bytes += u64::from(part.block.length);
+        self.parts[lane.0 as usize] = None;
+        self.last = Some(Last {
+            block: part.block,
+            before: Some(stood),
+        });
+        Ok(part.block)
+    }
+
+    /// The last landing is taken back, where that can be. It takes no memory.
+    pub fn unland(&mut self)
+        ensures { self.new ≡ taken_back self.old }
+    {
+        let Some(last) = self.last else {
+            return;
+        };
+        let Some(stood) = last.before else {
+            return;
+        };
+        self.pending.truncate(stood.entries);
+        self.unlogged.truncate(stood.blocks);
+        self.unlogged_bytes = stood.bytes;
+        self.parts[stood.lane.0 as usize] = Some(Part {
+            block: last.block,
+            left: 0,
+        });
+        self.last = None;
+    }
+
+    /// Begins the header's block, which is empty, and lands it in one. It is refused, and fails, as where it
+    /// begins. What the landing needs of memory is taken before any call on the disk.
+    pub fn place<D: Depot>(
+        &mut self,
+        depot: &mut D,
+        lane: Lane,
+        header: &Header,
+    ) -> Result<Block, WriteFail>
+        requires lane { lane.0 < length (self.old).parts }
+        requires idle { part_at self.old lane.0 ≡ None }
+        requires header { FitsHeader header.now }
+        requires empty { (header.now).length ≡ 0 }
+        requires spots { (D.state depot.old).spots ≡ [] }
+        ensures block { IfOk result (λ block. block ≡ block_of (self.old).known header.now) }
+        ensures placed { OnOk result (self.new ≡ lands (begins self.old lane.0 header.now) lane.0 (block_of (self.old).known header.now)) }
+        ensures unchanged { OnErr result (IsSameOrSettled self.old self.new) }
+        ensures refused { IsAnswered (fault_at self.old header.now) result }
+        ensures untouched { IsSome (fault_at self.old header.now) → D.state depot.new ≡ D.state depot.old }
+        ensures disk { fault_at self.old header.now ≡ None → UsesDisk (CanMake (self.old).known header.now) (begun_on (self.old).known header.now)
+            (run_begin (self.old).known header.now) result (D.state depot.old) (D.state depot.new) }
+        ensures up { is_new (self.old).known header.now ≡ true → OnOk result ((D.state depot.new).stop.struck ≡ None) }
+        ensures slips { (D.state depot.new).slips ≡ (D.state depot.old).slips }
+    {
+        settle(&mut self.files, &mut self.last)?;
+        if let Some(fail) = fault(&self.files, &self.parts, header) {
+            return Err(fail);
+        }
+        self.pending.reserve(1)?;
+        self.unlogged.reserve(1)?;
+        let path = header.path.copy()?;
+        let number = number_for(depot, &mut self.files, header)?;
+        let block = Block {
+            file: number,
+            offset: header.offset,
+            length: header.length,
+        };
+        let stood = Stood {
+            lane,
+            entries: self.pending.len(),
+            blocks: self.unlogged.len(),
+            bytes: self.unlogged_bytes,
+        };
+        self.pending.push_reserved(LogEntry::File {
+            number,
+            path,
+            size: header.size,
+            stamp: header.stamp,
+        });
+        self.unlogged.push_reserved(block);
+        self.last = Some(Last {
+            block,
+            before: Some(stood),
+        });
+        Ok(block)
+    }
+
+    /// The lane's block isn't begun any more. It takes no memory.
+    pub fn drop_part(&mut self, lane: Lane)
+        requires { lane.0 < length (self.old).parts }
+        ensures { self.new ≡ drops self.old lane.0 }
+    {
+        self.parts[lane.0 as usize] = None;
+        keep_landed(&mut self.last);
+    }
+
+    /// All that landed is logged.
+    pub fn logged(&mut self)
+        ensures { self.new ≡ all_logged self.old }
+    {
+        self.pending.clear();
+        self.unlogged.clear();
+        self.unlogged_bytes = 0;
+        keep_landed(&mut self.last);
     }
 }
