@@ -1,5 +1,5 @@
 -- A sender within the limits begins within them, and stays there.
-use Rattle.std.proofs.Common.{◌≡◌, ℕ, ◌<◌, ◌≤◌, ◌^◌, List, length, replicate, sym, subst, arith}
+use Rattle.std.proofs.Common.{ℕ, ◌<◌, ◌≤◌, ◌^◌, List, replicate, sym, subst, arith}
 use Rattle.std.proofs.lemmas.List.{length-replicate}
 use Rattle.wdt_units.specs.declared.limits.TheConstants.{MAX_BLOCK}
 use Rattle.wdt_units.specs.declared.numbers.Lane.{Lane}

@@ -94,52 +94,6 @@ impl SendEnd {
         self.lanes[lane.0 as usize].ask
     }
 
-    /// Whether the receiver has closed a lane.
-    pub fn is_closed(&self, lane: Lane) -> bool
-        requires { lane.0 < length self.now.plain.lanes }
-        ensures { result ≡ is_closed self.now.plain lane.0 }
-    {
-        self.journal.is_closed(lane)
-    }
-
-    /// Whether a lane had as many connections as it may have, or as many tries that failed.
-    pub fn is_used_up(&self, lane: Lane) -> bool
-        requires { lane.0 < length self.now.plain.lanes }
-        ensures { result ≡ is_used_up (past_at self.now.plain lane.0) }
-    {
-        self.journal.is_used_up(lane)
-    }
-
-    /// How many connections a lane had.
-    pub fn connections(&self, lane: Lane) -> u16
-        requires { lane.0 < length self.now.plain.lanes }
-        ensures { result ≡ (past_at self.now.plain lane.0).connections }
-    {
-        self.journal.connections(lane)
-    }
-
-    /// What is wrong with a count of a lane's blocks, if anything.
-    pub fn check(&self, lane: Lane, count: u32) -> Result<(), PeerKind>
-        requires { lane.0 < length self.now.plain.lanes }
-        ensures { result_err result ≡ count_fault (past_at self.now.plain lane.0).claims count }
-    {
-        self.journal.check(lane, count)
-    }
-
-    /// Whether no block waits.
-    pub fn is_empty(&self) -> bool
-        ensures { IsTrue result ↔ (least_queued self.now.plain ≡ None) }
-    {
-        self.journal.is_empty()
-    }
-
-    /// How many blocks wait or are being written.
-    pub fn unfinished(&self) -> u32
-        ensures { result ≡ unfinished_blocks self.now.plain }
-    {
-        self.journal.unfinished()
-    }
-
     /// Whether what the destination has is known.
     pub fn is_listed(&self) -> bool
         ensures { result ≡ is_some self.now.plain.have }

@@ -33,7 +33,7 @@ impl SendEnd {
         ensures { ruled (failed self.old.plain (starved self.old.plain.answer)) lane (Starved mute) ≡ (result, self.new.plain) }
     {
         self.starve();
-        if self.is_closed(lane) {
+        if self.journal.is_closed(lane) {
             return self.leave(lane);
         }
         if self.has_failed() {
@@ -53,7 +53,7 @@ impl SendEnd {
         if matches!(row, SendRow::Over) {
             return Ok(SendAct::Stop);
         }
-        if self.is_closed(lane) {
+        if self.journal.is_closed(lane) {
             return Ok(self.leave(lane));
         }
         if self.has_failed() {

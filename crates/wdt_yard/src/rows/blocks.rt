@@ -19,7 +19,7 @@ impl SendEnd {
         ensures ok { IfOk result (λ act. next self.old.plain lane ≡ (act, self.new.plain)) }
         ensures err { OnErr result (self.new.plain ≡ self.old.plain) }
     {
-        if self.is_empty() {
+        if self.journal.is_empty() {
             return Ok(self.say_done(lane));
         }
         let path = self.prepare_next(lane)?;
@@ -33,7 +33,7 @@ impl SendEnd {
         ensures ok { IfOk result (λ act. next (noted self.old.plain (SendEvent.Sent lane ∷ [])) lane ≡ (act, self.new.plain)) }
         ensures err { OnErr result (self.new.plain ≡ self.old.plain) }
     {
-        if self.is_empty() {
+        if self.journal.is_empty() {
             self.prepare(lane)?;
             self.sent(lane);
             return Ok(self.say_done(lane));

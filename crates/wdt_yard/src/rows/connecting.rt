@@ -15,7 +15,7 @@ impl SendEnd {
         ensures ok { IfOk result (λ act. redial self.old.plain lane ≡ (act, self.new.plain)) }
         ensures err { OnErr result (self.new.plain ≡ self.old.plain) }
     {
-        if self.is_used_up(lane) {
+        if self.journal.is_used_up(lane) {
             self.prepare(lane)?;
         }
         Ok(self.redial(lane))
@@ -69,11 +69,11 @@ impl SendEnd {
         requires room { is_used_up (past_at self.old.plain lane.0) ≡ true → 0 < self.old.spare }
         ensures { redial self.old.plain lane ≡ (result, self.new.plain) }
     {
-        if self.is_used_up(lane) {
+        if self.journal.is_used_up(lane) {
             self.note(SendEvent::Quit(lane));
             return self.leave(lane);
         }
-        let conn = Conn(self.connections(lane) + 1);
+        let conn = Conn(self.journal.connections(lane) + 1);
         self.go(lane, SendState::Connect);
         SendAct::Dial(conn)
     }

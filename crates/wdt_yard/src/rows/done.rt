@@ -19,7 +19,7 @@ impl SendEnd {
         ensures ok { IfOk result (λ act. (row : Row) → is_mute row ≡ false → finished self.old.plain lane row ≡ (act, self.new.plain)) }
         ensures err { OnErr result (self.new.plain ≡ self.old.plain) }
     {
-        let count = self.unfinished();
+        let count = self.journal.unfinished();
         if count != 0 {
             return self.find_fault(lane, PeerKind::EarlyDone { count });
         }

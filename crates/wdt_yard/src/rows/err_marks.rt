@@ -55,7 +55,7 @@ impl SendEnd {
         ensures { result_err result ≡ marks_fault self.now.plain.history marks.now }
     {
         for mark in marks {
-            if let Err(kind) = self.check(mark.lane, mark.count) {
+            if let Err(kind) = self.journal.check(mark.lane, mark.count) {
                 return Err(kind);
             }
         }

@@ -1,4 +1,4 @@
-use Rattle.std.proofs.Common.{◌≡◌, sym, subst, arith}
+use Rattle.std.proofs.Common.{sym, subst, arith}
 use Rattle.wdt_sender_fsm.specs.Sender.{IsSender}
 use Rattle.wdt_sender_fsm.specs.Writes.{IsLawful}
 use Rattle.wdt_yard.specs.Inside.{IsYard}
