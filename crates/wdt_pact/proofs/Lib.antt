@@ -34,6 +34,7 @@ mod SendActs
 mod SendLaw
 mod Fitting
 mod Steps
+mod Beginning
 mod Taking
 mod Sent
 mod Greeting

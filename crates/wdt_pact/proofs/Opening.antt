@@ -1,19 +1,13 @@
 -- A lane of a world that begins.
 use Rattle.std.proofs.Common.{◌≡◌, ℕ, false, [], None, refl, arith}
 use Rattle.wdt_units.specs.declared.numbers.Conn.{Conn}
-use Rattle.wdt_sender_fsm.specs.declared.acts.SendAct.TheVariants as acts
 use Rattle.wdt_sender_fsm.specs.PlainSender as sender
 use Rattle.wdt_sender_fsm.specs.SenderHistory as sent
-use Rattle.wdt_receiver_fsm.specs.declared.acts.RecvAct.TheVariants as recv_acts
 use Rattle.wdt_receiver_fsm.specs.PlainReceiver as recv
 use Rattle.wdt_receiver_fsm.specs.ReceiverHistory as received
-use Rattle.wdt_pact.specs.Pairs.{Pair, SendDoes, RecvDoes}
+use Rattle.wdt_pact.specs.World.{first_pair}
 use Rattle.wdt_pact.specs.Lists.{Splits-none}
 use Rattle.wdt_pact.specs.Conversation.{Converses, Common}
-
--- both ends hold their first act, and there is no connection
-abbrev pub first_pair : Conn → Pair
-first_pair c = record { send = SendDoes (acts.Dial c); recv = RecvDoes recv_acts.Accept; taken = None; between = []; newest = None; denies = 0; refusals = 0 }
 
 pub opens_here : (g : Common) (l : ℕ) (c : Conn) → g.finish ≡ false → Converses g l record { lane = sender.new_lane; past = sent.no_past; kept = [] } record { lane = recv.new_lane; past = received.no_past; landed = []; begun = None } (first_pair c)
 opens_here g l c unfinished =

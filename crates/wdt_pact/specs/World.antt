@@ -1,14 +1,18 @@
 -- A world of two plain ends and their connections, by messages, and what each event makes of it. Whether the
 -- source fails in a block, and which program of calls on the disk fails, is said with the event.
 use Rattle.std.specs.Prelude.{ℕ, zero, suc, List, [], length, replicate, slice_get, slice_set, Option, Some, None}
+use Rattle.wdt_units.specs.declared.numbers.Conn.{Conn}
 use Rattle.wdt_units.specs.declared.numbers.Lane.{Lane}
+use Rattle.wdt_logfmt.specs.View.{Meaning}
+use Rattle.wdt_tree.specs.declared.entry.Entry.{Entry}
 use Rattle.wdt_sender_fsm.specs.declared.acts.SendAct.TheVariants as acts
 use Rattle.wdt_sender_fsm.specs.declared.inputs.SendIn.{SendIn}
-use Rattle.wdt_sender_fsm.specs.PlainSender.{PlainSender, past_at}
+use Rattle.wdt_sender_fsm.specs.PlainSender.{PlainSender, new_lane, opened, past_at}
 use Rattle.wdt_sender_fsm.specs.Turn.{send_turn, Step as SendStep}
 use Rattle.wdt_receiver_fsm.specs.declared.acts.RecvAct.TheVariants as recv_acts
 use Rattle.wdt_receiver_fsm.specs.declared.inputs.RecvIn.TheVariants as recv_inputs
 use Rattle.wdt_receiver_fsm.specs.Plan.{Plan, calls, ends}
+use Rattle.wdt_receiver_fsm.specs.PlainReceiver as recv
 use Rattle.wdt_receiver_fsm.specs.PlainReceiver.{PlainReceiver}
 use Rattle.wdt_receiver_fsm.specs.Turn.{Put, Given, Bytes, turn_plan, Step as RecvStep}
 use Rattle.wdt_pact.specs.Pairs.{Pair, SendHold, SendDoes, SendHas, RecvHold, RecvDoes, RecvHas, RecvTook, cuts_by, recv_does, recv_gets, send_does, send_takes, top}
@@ -118,6 +122,22 @@ happens w (Receives l broken) = recv_steps w l broken
 happens w (Cut l down up) = let p = pair_at w l in with_pair w l (cuts_by p down up (top p))
 happens w (Deny l) = let p = pair_at w l in with_pair w l record p { denies = suc p.denies }
 happens w (Refuse l) = let p = pair_at w l in with_pair w l record p { refusals = suc p.refusals }
+
+-- ---- a world that begins
+
+-- both ends of a lane hold their first act, and there is no connection
+abbrev pub first_pair : Conn → Pair
+first_pair conn =
+    record { send = SendDoes (acts.Dial conn); recv = RecvDoes recv_acts.Accept; taken = None; between = []; newest = None; denies = 0; refusals = 0 }
+
+-- a sender of this tree and a receiver that opened this log, with n lanes, each of which is to make its first connection
+abbrev pub first_world : List Entry → (block session : ℕ) → Meaning → (batch n : ℕ) → Conn → PlainWorld
+first_world manifest block session log batch n conn =
+    record {
+      sender = opened manifest block session (replicate n new_lane);
+      receiver = recv.opened log batch (replicate n recv.new_lane);
+      pairs = replicate n (first_pair conn);
+    }
 
 -- ---- settling
 

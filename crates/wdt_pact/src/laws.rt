@@ -1,9 +1,13 @@
 //! Laws of two ends and their connections, by messages. The functions do nothing: their contracts are
 //! the laws. `specs/Conversation` says how the two ends of each lane fit together; that a step keeps it is
 //! said of each kind of step.
-ghost use Rattle.std.specs.Prelude.{◌≡◌, ℕ, ◌-◌, ◌<◌, ◌++◌, List, [], ◌∷◌, length, true, false, Bool, Option, Some, None};
+ghost use Rattle.std.specs.Prelude.{◌≡◌, ℕ, ◌-◌, ◌^◌, ◌<◌, ◌≤◌, ◌++◌, List, [], ◌∷◌, length, replicate, slice_get, take, true, false, Bool, Option, Some, None};
 ghost use Rattle.wdt_units.specs.declared.blocks.Block.{Block};
 ghost use Rattle.wdt_units.specs.declared.blocks.Header.{Header};
+ghost use Rattle.wdt_units.specs.declared.numbers.Conn.{Conn};
+ghost use Rattle.wdt_codec.specs.Chunks.{FitsChunks};
+ghost use Rattle.wdt_logfmt.specs.View.{Meaning};
+ghost use Rattle.wdt_tree.specs.declared.entry.Entry.{Entry};
 ghost use Rattle.wdt_codec.specs.Frames.{Fits};
 ghost use Rattle.wdt_codec.specs.declared.frames.Frame.{Frame};
 ghost use Rattle.wdt_codec.specs.declared.frames.Frame.TheVariants as frames;
@@ -14,16 +18,20 @@ ghost use Rattle.wdt_sender_fsm.specs.declared.events.SendEvent.TheVariants.{Sen
 ghost use Rattle.wdt_sender_fsm.specs.declared.inputs.SendIn.TheVariants as inputs;
 ghost use Rattle.wdt_sender_fsm.specs.declared.states.SendState.TheVariants as states;
 ghost use Rattle.wdt_pact.specs.Stances.{has_link};
-ghost use Rattle.wdt_sender_fsm.specs.PlainSender.{lane_at, least_queued, noted, past_at, state_at, waiting_blocks};
-ghost use Rattle.wdt_sender_fsm.specs.Phases.{Message};
-ghost use Rattle.wdt_sender_fsm.specs.Rows.{is_reading};
+ghost use Rattle.wdt_sender_fsm.specs.PlainSender.{lane_at, least_queued, new_lane, noted, opened, past_at, state_at, waiting_blocks};
+ghost use Rattle.wdt_sender_fsm.specs.Phases.{Message, is_abort, is_named};
+ghost use Rattle.wdt_sender_fsm.specs.Rows.{is_reading, row_of};
 ghost use Rattle.wdt_sender_fsm.specs.Rules.{is_failure};
 ghost use Rattle.wdt_sender_fsm.specs.Sender.{FitsIn};
+ghost use Rattle.wdt_sender_fsm.specs.Writes.{IsLawful};
 ghost use Rattle.wdt_receiver_fsm.specs.declared.acts.RecvAct.TheVariants as recv_acts;
 ghost use Rattle.wdt_receiver_fsm.specs.declared.events.RecvEvent.TheVariants.{Idle};
 ghost use Rattle.wdt_receiver_fsm.specs.declared.inputs.RecvIn.TheVariants.{Got};
 ghost use Rattle.wdt_receiver_fsm.specs.declared.states.RecvState.TheVariants as recv_states;
+ghost use Rattle.wdt_receiver_fsm.specs.Phases as recv_phases;
 ghost use Rattle.wdt_receiver_fsm.specs.PlainReceiver as recv;
+ghost use Rattle.wdt_receiver_fsm.specs.PlainReceiver.{have_now};
+ghost use Rattle.wdt_receiver_fsm.specs.Rows as recv_rows;
 ghost use Rattle.wdt_receiver_fsm.specs.Rows.{is_reading as receives_in};
 ghost use Rattle.wdt_receiver_fsm.specs.Ready.{is_ready};
 ghost use Rattle.wdt_receiver_fsm.specs.Writes.{CanTell};
@@ -38,14 +46,14 @@ ghost use Rattle.wdt_pact.specs.Lists.{Splits};
 ghost use Rattle.wdt_pact.specs.Pairs.{RecvDoes, RecvHas, RecvHold, RecvTook, SendDoes, SendHas, SendHold};
 ghost use Rattle.wdt_pact.specs.Progress.{Holds, Moves};
 ghost use Rattle.wdt_pact.specs.Stances.{Agrees, Stance};
-ghost use Rattle.wdt_pact.specs.World.{Cut, PlainWorld, WorldEvent, happens, number, pair_at, recv_steps, send_steps};
+ghost use Rattle.wdt_pact.specs.World.{Cut, PlainWorld, WorldEvent, first_world, happens, number, pair_at, recv_steps, send_steps};
 ghost use Rattle.wdt_sender_fsm.specs.declared.states.SendState.{SendState};
 ghost use Rattle.wdt_receiver_fsm.specs.declared.states.RecvState.{RecvState};
 
 use wdt_receiver_fsm::receivers_stay_receivers;
 use wdt_sender_fsm::{
-    histories_are_sound, senders_stay_senders, steps_answer_rightly, steps_have_outcomes,
-    steps_touch_their_lane,
+    a_sender_speaks_in_turn, histories_are_sound, senders_stay_senders, steps_answer_rightly,
+    steps_have_outcomes, steps_touch_their_lane,
 };
 
 /// A sender's lane comes to its blocks: its connection stands, what the sender is is written, and it is told
@@ -162,6 +170,33 @@ pub fn a_receiver_keeps_the_conversation()
 {
     histories_are_sound();
 }
+
+/// A world that begins is sound, and its finish is as it must be: of a tree within the sender's limits, and a log that
+/// the receiver can tell.
+pub fn worlds_begin_sound()
+    ensures sound { (manifest : List Entry) (block session : ℕ) (log : Meaning) (batch n : ℕ) (conn : Conn) → 1 ≤ n → n ≤ 16 → IsLawful (opened manifest block session (replicate n new_lane))
+        → ((file : ℕ) (entry : Entry) → slice_get manifest file ≡ Some entry → entry.stamp ≤ 2 ^ 64 - 1) → FitsChunks (have_now log.files []) → IsSound (first_world manifest block session log batch n conn) }
+    ensures finishing { (manifest : List Entry) (block session : ℕ) (log : Meaning) (batch n : ℕ) (conn : Conn) → 1 ≤ n → Finishing (first_world manifest block session log batch n conn) }
+{
+    receivers_stay_receivers();
+    senders_stay_senders();
+}
+
+/// In a sound world no lane reads what may not come: each frame that one has read tells of a failure, or has its row of
+/// the table.
+pub fn what_is_read_may_come()
+    ensures receives { (w : PlainWorld) (l : ℕ) (frame : Frame) → IsSound w → l < length w.pairs → (pair_at w l).recv ≡ RecvHas (Got frame) → is_abort frame ≡ false
+        → recv_phases.is_named (recv_rows.row_of (recv.lane_at w.receiver l).is_sized (recv.state_at w.receiver l) (Got frame)) ≡ true }
+    ensures sends { (w : PlainWorld) (l : ℕ) (frame : Frame) → IsSound w → l < length w.pairs → (pair_at w l).send ≡ SendHas (inputs.Got frame) → is_abort frame ≡ false
+        → is_named (row_of (state_at w.sender l) (inputs.Got frame)) ≡ true }
+{
+    a_sender_speaks_in_turn();
+}
+
+/// The blocks that have landed on a lane are the first that its sender claimed, in the same order.
+pub fn blocks_land_in_order()
+    ensures { (w : PlainWorld) (l : ℕ) → Conversation w → l < length w.pairs → take (length (receiving w.receiver l).landed) (sending w.sender l).kept ≡ (receiving w.receiver l).landed }
+{}
 
 /// Whatever happens to a sound world, a step of either end, a cut, or a try to make or to take a connection that is to
 /// fail, it stays sound: the ends of each lane fit together, what each lane holds belongs to its state, and what is
