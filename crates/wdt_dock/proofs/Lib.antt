@@ -1,3 +1,12 @@
+mod Booking
+mod Choices
 mod Ending
+mod Finishing
+mod Goodness
+mod Keeping
+mod Lengths
+mod LoggedAll
+mod Parting
 mod Results
 mod Telling
+mod Waiting

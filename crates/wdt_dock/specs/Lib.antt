@@ -1,3 +1,5 @@
+pub mod Booked
+pub mod Desk
 pub mod DockGood
 pub mod DockView
 pub mod End
@@ -5,3 +7,4 @@ pub mod EndInside
 pub mod Idling
 pub mod Landed
 pub mod Serving
+pub mod Landing

@@ -5,15 +5,25 @@
 //! stands where one of them fails. `RecvEnd` is the part of the end that has no files: its lanes, its
 //! history and its answer. Its calls are the rows of the table that make no call on the disk, each with the
 //! step of that row, whatever is kept of the files (`specs/End.antt`). `specs/DockGood.antt` says when an
-//! end and its disk are good for a tree, and `specs/Landed.antt` which of the blocks that landed are logged:
-//! the rows that make calls on the disk come next.
+//! end and its disk are good for a tree, and `specs/Landed.antt` which of the blocks that landed are logged.
+//!
+//! The rows with files are functions over a depot, a log, a writer of blocks and an end. `specs/Desk.antt`
+//! says what hangs together of these: what the writer is to log is what is logged of the blocks that landed,
+//! and on each lane the same block is begun. Each row says which plan's end it comes to, that the ties stand
+//! behind it, and that the end and its disk stay good for the tree.
 #![tactic(auto)]
 
 mod answers;
+mod choosing;
+mod dropping;
 mod end;
 mod idling;
+mod logging;
 mod rows;
 mod serving;
 
+pub use choosing::choose;
+pub use dropping::lose_connection;
 pub use end::RecvEnd;
 pub use idling::Idling;
+pub use logging::log_all;
