@@ -2,6 +2,7 @@ mod Booking
 mod Choices
 mod Ending
 mod Finishing
+mod Fewness
 mod Flushed
 mod Goodness
 mod Keeping
