@@ -2,10 +2,13 @@ mod Booking
 mod Choices
 mod Ending
 mod Finishing
+mod Fewness
+mod Flushed
 mod Goodness
 mod Keeping
 mod Lengths
 mod LoggedAll
+mod Opened
 mod Parting
 mod Results
 mod Telling
