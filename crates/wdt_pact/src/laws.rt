@@ -173,8 +173,9 @@ pub fn a_receiver_keeps_the_conversation()
 /// A world that begins is sound, and its finish is as it must be: of a tree within the sender's limits, and a log that
 /// the receiver can tell.
 pub fn worlds_begin_sound()
-    ensures sound { (manifest : List Entry) (block session : ℕ) (log : Meaning) (batch n : ℕ) (conn : Conn) → 1 ≤ n → n ≤ 16 → IsLawful (opened manifest block session (replicate n new_lane))
-        → ((file : ℕ) (entry : Entry) → slice_get manifest file ≡ Some entry → entry.stamp ≤ 2 ^ 64 - 1) → FitsChunks (have_now log.files []) → IsSound (first_world manifest block session log batch n conn) }
+    ensures sound { (manifest : List Entry) (block session : ℕ) (log : Meaning) (batch n : ℕ) (conn : Conn) → 1 ≤ n → n ≤ 16
+        → IsLawful (opened manifest block session (replicate n new_lane)) → ((file : ℕ) (entry : Entry) → slice_get manifest file ≡ Some entry → entry.stamp ≤ 2 ^ 64 - 1)
+        → FitsChunks (have_now log.files []) → IsSound (first_world manifest block session log batch n conn) }
     ensures finishing { (manifest : List Entry) (block session : ℕ) (log : Meaning) (batch n : ℕ) (conn : Conn) → 1 ≤ n → Finishing (first_world manifest block session log batch n conn) }
 {
     receivers_stay_receivers();
@@ -195,10 +196,10 @@ pub fn what_is_read_may_come()
 /// A count that a sender's lane has read is right: it is told of that lane, or of another one that is there, and lies
 /// between what has surely landed and all that the lane has claimed; of a closed lane it is the one that closed it.
 pub fn counts_are_right()
-    ensures greeting { (w : PlainWorld) (l : ℕ) (mark : Mark) → Conversation w → l < length w.pairs → state_at w.sender l ≡ states.ReadLocalCheckpoint → (pair_at w l).send ≡ SendHas (inputs.Got (frames.Greeting mark))
-        → (mark.lane.0 ≡ l) × (count_fault (past_at w.sender l).claims mark.count ≡ None) }
-    ensures marks { (w : PlainWorld) (l : ℕ) (marks : List Mark) → Conversation w → l < length w.pairs → state_at w.sender l ≡ states.ReadReceiverCmd → (pair_at w l).send ≡ SendHas (inputs.Got (frames.ErrMarks marks))
-        → has_stranger (length w.sender.lanes) l marks ≡ false → marks_fault w.sender.history marks ≡ None }
+    ensures greeting { (w : PlainWorld) (l : ℕ) (mark : Mark) → Conversation w → l < length w.pairs → state_at w.sender l ≡ states.ReadLocalCheckpoint
+        → (pair_at w l).send ≡ SendHas (inputs.Got (frames.Greeting mark)) → (mark.lane.0 ≡ l) × (count_fault (past_at w.sender l).claims mark.count ≡ None) }
+    ensures marks { (w : PlainWorld) (l : ℕ) (marks : List Mark) → Conversation w → l < length w.pairs → state_at w.sender l ≡ states.ReadReceiverCmd
+        → (pair_at w l).send ≡ SendHas (inputs.Got (frames.ErrMarks marks)) → has_stranger (length w.sender.lanes) l marks ≡ false → marks_fault w.sender.history marks ≡ None }
 {
     histories_are_sound();
 }
