@@ -4,9 +4,11 @@ mod Ending
 mod Finishing
 mod Goodness
 mod Keeping
+mod LandedBlock
 mod Lengths
 mod LoggedAll
 mod Parting
 mod Results
 mod Telling
 mod Waiting
+mod Written
