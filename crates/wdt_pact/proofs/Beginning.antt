@@ -1,5 +1,5 @@
 -- A world that begins is sound, and so is what is read in one.
-use Rattle.std.proofs.Common.{◌≡◌, ℕ, zero, suc, ◌<◌, ◌≤◌, ◌-◌, ◌^◌, ◌||◌, ◌&&◌, not, Bool, true, false, List, [], length, take, replicate, slice_get, Option, Some, None, subst, sym, ap, ◌∙◌, refl, arith}
+use Rattle.std.proofs.Common.{inl, ◌≡◌, ℕ, zero, suc, ◌<◌, ◌≤◌, ◌-◌, ◌^◌, ◌||◌, ◌&&◌, not, Bool, true, false, List, [], length, take, replicate, slice_get, Option, Some, None, subst, sym, ap, ◌∙◌, refl, arith}
 use Rattle.std.proofs.lemmas.Bool.{both_ways}
 use Rattle.std.proofs.lemmas.List.{length-replicate, take_at}
 use Rattle.wdt_units.specs.declared.blocks.Header.{Header}
@@ -42,6 +42,7 @@ use Rattle.wdt_pact.specs.Belongs.{RecvBelongs, SendBelongs}
 use Rattle.wdt_pact.specs.Fitting.{FitsDown, IsSound}
 use Rattle.wdt_pact.specs.Lists.{Splits}
 use Rattle.wdt_pact.specs.Pairs.{Pair, RecvHold, RecvHas, SendHold, SendHas}
+use Rattle.wdt_pact.specs.Progress.{AreCut, AreEven}
 use Rattle.wdt_pact.specs.World.{PlainWorld, first_pair, first_world, pair_at, pair_or}
 use Rattle.wdt_pact.specs.Conversation.{Conversation, Converses, HeardDown, HeardUp, IsNamed, IsWord, Receiving, Sending, common, is_recv_out, is_send_out, receiving, receiving_of, sending, sending_of}
 use Rattle.wdt_pact.proofs.Lists.{leads_of}
@@ -160,6 +161,8 @@ module _ (manifest : List Entry) (block session : ℕ) (log : Meaning) (batch n 
           receiver = record { have = have; code = omega arith };
           down = λ l within. subst FitsDown (sym (pair_is l (in_pairs l within))) record { hand = tt; says = tt; taken = tt; between = tt; newest = tt };
         };
+        cut = λ l within. subst (AreCut (sender.state_at w.sender l) (recv.state_at w.receiver l)) (sym (pair_is l (in_pairs l within))) record { older = λ e. absurd (e refl); sender = λ e. inl tt; receiver = λ e. inl tt };
+        even = λ l within. subst AreEven (sym (pair_is l (in_pairs l within))) record { taken = tt; between = tt; newest = tt };
       }
 
   -- ---- no lane told of another, and nothing waits

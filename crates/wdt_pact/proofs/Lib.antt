@@ -33,8 +33,12 @@ mod SendAll
 mod SendActs
 mod SendLaw
 mod Fitting
+mod Cuts
+mod CutSteps
+mod CutLaw
 mod Steps
 mod Beginning
+mod Moving
 mod Taking
 mod Sent
 mod Greeting

@@ -53,7 +53,7 @@ reads_linked recv_states.Ended e = cc
 reads_linked st e = refl
 
 -- a lane that writes stands where it does
-fits_writing : (lane : RecvLane) (past : RecvPast) (f : Frame) → FitsLane lane past (recv_acts.Write f) → receives_writing lane.state ≡ true
+pub fits_writing : (lane : RecvLane) (past : RecvPast) (f : Frame) → FitsLane lane past (recv_acts.Write f) → receives_writing lane.state ≡ true
 fits_writing lane past f (inl e) = ap receives_writing e.1
 fits_writing lane past f (inr e) = writing_in lane e.to lane.state e.after
 
@@ -177,7 +177,7 @@ module _ (w : PlainWorld) (l : ℕ) (c : Conversation w) (within : l < length w.
   changes Ended of is = acts_on _ refl
   changes Acknowledged of is = leaves_on (noted w.receiver (recv_events.Acked (number l) ∷ [])) is
 
-  own_belongs : FitsLane (lane_at step.1 l) (past_at step.1 l) step.0
+  pub own_belongs : FitsLane (lane_at step.1 l) (past_at step.1 l) step.0
   own_belongs = go (turn_acts w.receiver (number l) put step c.receiver.few small ends) where
     go : IsActOf w.receiver (number l) step → FitsLane (lane_at step.1 l) (past_at step.1 l) step.0
     go (inl e) = subst (λ (a : RecvAct). FitsLane (lane_at step.1 l) (past_at step.1 l) a) (sym e) (act_fits step.1 (number l))

@@ -133,7 +133,7 @@ writing_in lane q recv_states.SendDone e = refl
 writing_in lane q st e = cc
 
 -- there it doesn't matter whether the lane is acknowledged
-talks_in : (lane : RecvLane) (idle acked : Bool) (p q : Phase) (st : RecvState) → recv.phase_by lane idle false st ≡ Some p → recv.phase_written lane.ask st ≡ Some q → stand (recv_aborts st) (recv.phase_by lane idle acked st) ≡ Talks p
+pub talks_in : (lane : RecvLane) (idle acked : Bool) (p q : Phase) (st : RecvState) → recv.phase_by lane idle false st ≡ Some p → recv.phase_written lane.ask st ≡ Some q → stand (recv_aborts st) (recv.phase_by lane idle acked st) ≡ Talks p
 talks_in lane idle acked p q recv_states.SendLocalCheckpoint e w = ap (stand false) e
 talks_in lane idle acked p q recv_states.SendFileChunks e w = ap (stand false) e
 talks_in lane idle acked p q recv_states.SendWait e w = ap (stand false) e

@@ -86,7 +86,7 @@ reads_linked states.Connect e = cc
 reads_linked states.Ended e = cc
 reads_linked st e = refl
 
-frame_writing : (lane : SendLane) (st : SendState) (frame : Frame) → SendFrameIn lane st frame → sends_writing st ≡ true
+pub frame_writing : (lane : SendLane) (st : SendState) (frame : Frame) → SendFrameIn lane st frame → sends_writing st ≡ true
 frame_writing lane states.SendSettings (frames.Settings s) f = refl
 frame_writing lane states.SendSize (frames.Size files bytes) f = refl
 frame_writing lane states.SendDone frames.Done f = refl
@@ -192,7 +192,7 @@ module _ (comes : (s : PlainSender) (k : Lane) (i : SendIn) → Comes s k i (sen
   abbrev step : Step
   step = send_turn w.sender (number l) input
 
-  own_belongs : Own step
+  pub own_belongs : Own step
   own_belongs = let x = comes w.sender (number l) input in subst Own (sym x.is) (outcome_belongs x.outcome x.of)
 
   pub turn_belongs : ((k : ℕ) → k < length w.pairs → SendBelongsAt w k) → (k : ℕ) → k < length (send_turned w l input step).pairs → SendBelongsAt (send_turned w l input step) k

@@ -9,6 +9,8 @@ use Rattle.wdt_sender_fsm.specs.declared.acts.SendAct.TheVariants as acts
 use Rattle.wdt_sender_fsm.specs.declared.events.SendEvent.{SendEvent}
 use Rattle.wdt_sender_fsm.specs.declared.inputs.SendIn.{SendIn}
 use Rattle.wdt_sender_fsm.specs.declared.inputs.SendIn.TheVariants as inputs
+use Rattle.wdt_sender_fsm.specs.declared.states.SendState.{SendState}
+use Rattle.wdt_receiver_fsm.specs.declared.states.RecvState.{RecvState}
 use Rattle.wdt_sender_fsm.specs.Legal.{IsLegal, IsSound as IsSoundLane}
 use Rattle.wdt_sender_fsm.specs.Phases.{Framed, Message, Piece, pieces_in, written_by}
 use Rattle.wdt_sender_fsm.specs.PlainSender as sender
@@ -34,6 +36,9 @@ use Rattle.wdt_pact.specs.World.{PlainWorld, WorldEvent, Sends, Receives, Cut, D
 use Rattle.wdt_pact.specs.Conversation.{Common, Converses, Receiving, Sending, common, receiving, sending}
 use Rattle.wdt_pact.proofs.Below.{if_has}
 use Rattle.wdt_pact.proofs.Connecting.{cut_keeps}
+use Rattle.wdt_pact.proofs.CutLaw.{AllSplit, pair_splits, recv_splits, send_splits}
+use Rattle.wdt_pact.proofs.CutSteps.{cuts_split}
+use Rattle.wdt_pact.proofs.Cuts.{IsSplit}
 use Rattle.wdt_pact.proofs.Fitting.{cuts_fit, read_fits, recv_fits, send_fits, tops, with_fits}
 use Rattle.wdt_pact.proofs.Frame.{pair_keeps}
 use Rattle.wdt_pact.proofs.Promised.{SenderKeeps}
@@ -174,17 +179,26 @@ tries_here : (g : Common) (l : ℕ) (s : Sending) (r : Receiving) (p : Pair) (n 
 tries_here g l s r p n m c =
     record { agrees = c.agrees; lists = c.lists; sure = c.sure; upward = c.upward; fits = c.fits; notes = c.notes; closed = c.closed; asked = c.asked; finished = c.finished; pieces = c.pieces; waits = c.waits; idle = c.idle; shut = c.shut; heard_up = c.heard_up; heard_down = c.heard_down }
 
+tries_split : (ss : SendState) (rs : RecvState) (p : Pair) (n m : ℕ) → IsSplit ss rs p → IsSplit ss rs (record p { denies = n; refusals = m })
+tries_split ss rs p n m s = record { cut = record { older = s.cut.older; sender = s.cut.sender; receiver = s.cut.receiver }; even = record { taken = s.even.taken; between = s.even.between; newest = s.even.newest } }
+
 -- ---- whatever happens
 
 module _ (keeps : SenderKeeps) (comes : (s : PlainSender) (k : Lane) (i : SendIn) → Comes s k i (send_turn s k i)) (touches : (s : PlainSender) (k : Lane) (i : SendIn) → Touches s k i (send_turn s k i).1)
     (lawful : (s : PlainSender) (k : Lane) (i : SendIn) → IsLawful s → IsLawful (send_turn s k i).1) (writes : (s : PlainSender) (k : Lane) (i : SendIn) → IsSender s → IsLawful s → k.0 < length s.lanes → FitsIn i → FitsAct s.manifest (send_turn s k i).0)
     (sounds : (n : ℕ) (planned : List Block) (h : List SendEvent) (l : ℕ) → IsLegal n planned h → IsSoundLane (sent_past h l)) where
-  quiet_pair : (w : PlainWorld) (l : ℕ) (p : Pair) → l < length w.pairs → Converses (common w.receiver) l (sending w.sender l) (receiving w.receiver l) p → FitsDown p → p.send ≡ (pair_at w l).send → p.recv ≡ (pair_at w l).recv → IsSound w → IsSound (with_pair w l p)
-  quiet_pair w l p within own fits send receives s =
+  splits : (w : PlainWorld) → IsSound w → AllSplit w
+  splits w s = λ l b. record { cut = s.cut l b; even = s.even l b }
+
+  quiet_pair : (w : PlainWorld) (l : ℕ) (p : Pair) → l < length w.pairs → IsSplit (sender.state_at w.sender l) (recv.state_at w.receiver l) p → Converses (common w.receiver) l (sending w.sender l) (receiving w.receiver l) p → FitsDown p → p.send ≡ (pair_at w l).send → p.recv ≡ (pair_at w l).recv → IsSound w → IsSound (with_pair w l p)
+  quiet_pair w l p within split own fits send receives s =
+      let x = pair_splits w l p within split (splits w s) in
       record {
         talk = pair_keeps w l p s.talk within own;
         belongs = record { send = keeps_send w l p within send s.belongs.send; recv = keeps_recv w l p within receives s.belongs.recv };
         fits = with_fits w l p within fits s.fits;
+        cut = λ k b. (x k b).cut;
+        even = λ k b. (x k b).even;
       }
 
   cuts_send : (p : Pair) (d u : ℕ) (o : Option Link) → (cuts_by p d u o).send ≡ p.send
@@ -197,29 +211,38 @@ module _ (keeps : SenderKeeps) (comes : (s : PlainSender) (k : Lane) (i : SendIn
 
   pub stays_sound : (w : PlainWorld) (e : WorldEvent) → IsSound w → Finishing w → lane_of e < length w.pairs → IsSound (happens w e)
   stays_sound w (Sends l lost) s f within =
+      let x = send_splits comes touches w l lost s.talk within s.belongs.send (splits w s) in
       record {
         talk = send_keeps keeps comes w l lost s.talk f.empty within (s.belongs.send l within);
         belongs = record { send = send_belongs comes touches w l lost s.talk within s.belongs.send; recv = send_leaves_recv w l lost within s.belongs.recv };
         fits = send_fits writes lawful touches w l lost s.talk (what_is_read_fits keeps comes w l lost s.talk f.empty within (s.belongs.send l within)) within s.fits;
+        cut = λ k b. (x k b).cut;
+        even = λ k b. (x k b).even;
       }
   stays_sound w (Receives l broken) s f within =
+      let x = recv_splits w l broken s.talk within s.belongs.recv (splits w s) in
       record {
         talk = recv_keeps sounds w l broken s.talk f within s.fits.receiver (s.belongs.recv l within) (read_fits (pair_at w l) (s.fits.down l within));
         belongs = record { send = recv_leaves_send w l broken within s.belongs.send; recv = recv_belongs w l broken s.talk within s.belongs.recv };
         fits = recv_fits w l broken within s.fits;
+        cut = λ k b. (x k b).cut;
+        even = λ k b. (x k b).even;
       }
   stays_sound w (Cut l d u) s f within =
       let p : Pair = pair_at w l in
+      let x = pair_splits w l (cuts_by p d u (top p)) within (cuts_split (sender.state_at w.sender l) (recv.state_at w.receiver l) p.send p.recv p.taken p.between p.newest p.denies p.refusals d u (splits w s l within)) (splits w s) in
       record {
         talk = cut_keeps w l d u s.talk within;
         belongs = record { send = keeps_send w l (cuts_by p d u (top p)) within (cuts_send p d u (top p)) s.belongs.send; recv = keeps_recv w l (cuts_by p d u (top p)) within (cuts_recv p d u (top p)) s.belongs.recv };
         fits = with_fits w l (cuts_by p d u (top p)) within (cuts_fit p d u (top p) (tops p.newest p.taken (s.fits.down l within).newest (s.fits.down l within).taken) (s.fits.down l within)) s.fits;
+        cut = λ k b. (x k b).cut;
+        even = λ k b. (x k b).even;
       }
   stays_sound w (Deny l) s f within =
       let p : Pair = pair_at w l in
       let d = s.fits.down l within in
-      quiet_pair w l (record p { denies = suc p.denies }) within (tries_here (common w.receiver) l (sending w.sender l) (receiving w.receiver l) p (suc p.denies) p.refusals (s.talk.lanes l within)) record { hand = d.hand; says = d.says; taken = d.taken; between = d.between; newest = d.newest } refl refl s
+      quiet_pair w l (record p { denies = suc p.denies }) within (tries_split (sender.state_at w.sender l) (recv.state_at w.receiver l) p (suc p.denies) p.refusals (splits w s l within)) (tries_here (common w.receiver) l (sending w.sender l) (receiving w.receiver l) p (suc p.denies) p.refusals (s.talk.lanes l within)) record { hand = d.hand; says = d.says; taken = d.taken; between = d.between; newest = d.newest } refl refl s
   stays_sound w (Refuse l) s f within =
       let p : Pair = pair_at w l in
       let d = s.fits.down l within in
-      quiet_pair w l (record p { refusals = suc p.refusals }) within (tries_here (common w.receiver) l (sending w.sender l) (receiving w.receiver l) p p.denies (suc p.refusals) (s.talk.lanes l within)) record { hand = d.hand; says = d.says; taken = d.taken; between = d.between; newest = d.newest } refl refl s
+      quiet_pair w l (record p { refusals = suc p.refusals }) within (tries_split (sender.state_at w.sender l) (recv.state_at w.receiver l) p p.denies (suc p.refusals) (splits w s l within)) (tries_here (common w.receiver) l (sending w.sender l) (receiving w.receiver l) p p.denies (suc p.refusals) (s.talk.lanes l within)) record { hand = d.hand; says = d.says; taken = d.taken; between = d.between; newest = d.newest } refl refl s

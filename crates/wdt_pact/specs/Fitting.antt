@@ -4,8 +4,10 @@ use Rattle.wdt_units.specs.Headers.{FitsHeader}
 use Rattle.wdt_codec.specs.Frames.{Fits}
 use Rattle.wdt_sender_fsm.specs.declared.acts.SendAct.TheVariants as acts
 use Rattle.wdt_sender_fsm.specs.Phases.{Message, Framed, Piece}
+use Rattle.wdt_sender_fsm.specs.PlainSender as sender
 use Rattle.wdt_sender_fsm.specs.Writes.{IsLawful}
 use Rattle.wdt_tree.specs.declared.entry.Entry.{Entry}
+use Rattle.wdt_receiver_fsm.specs.PlainReceiver as recv
 use Rattle.wdt_receiver_fsm.specs.Writes.{CanTell}
 use Rattle.wdt_pact.specs.Belongs.{Belongs}
 use Rattle.wdt_pact.specs.Conversation.{Conversation}
@@ -13,6 +15,7 @@ use Rattle.wdt_pact.specs.Each.{Each}
 use Rattle.wdt_pact.specs.Links.{Link}
 use Rattle.wdt_pact.specs.Lists.{in_hand}
 use Rattle.wdt_pact.specs.Pairs.{Pair, SendHold, SendDoes}
+use Rattle.wdt_pact.specs.Progress.{AreCut, AreEven}
 use Rattle.wdt_pact.specs.World.{PlainWorld, WorldEvent, Sends, Receives, Cut, Deny, Refuse, pair_at}
 
 -- a message lies in the grammar's ranges
@@ -51,11 +54,14 @@ pub record Fitting (w : PlainWorld) : Type 0 where
   pub receiver : CanTell w.receiver
   pub down : (l : ℕ) → l < length w.pairs → FitsDown (pair_at w l)
 
--- The ends of each lane fit together, what each lane holds belongs to its state, and what is said lies in the grammar.
+-- The ends of each lane fit together, what each lane holds belongs to its state, what is said lies in the grammar, and
+-- what was left behind is cut, in both directions.
 pub record IsSound (w : PlainWorld) : Type 0 where
   pub talk : Conversation w
   pub belongs : Belongs w
   pub fits : Fitting w
+  pub cut : (l : ℕ) → l < length w.pairs → AreCut (sender.state_at w.sender l) (recv.state_at w.receiver l) (pair_at w l)
+  pub even : (l : ℕ) → l < length w.pairs → AreEven (pair_at w l)
 
 -- the lane that an event is of
 abbrev pub lane_of : WorldEvent → ℕ

@@ -151,6 +151,23 @@ pub record AreCut (send : SendState) (recv : RecvState) (p : Pair) : Type 0 wher
   pub sender : is_send_off p.send send ≡ true → IsCutBy (top_by p.newest p.taken) ⊎ (recv_stops p.recv ≡ true)
   pub receiver : is_recv_off p.recv recv ≡ true → IsCutBy p.taken ⊎ (send_left p.newest p.send ≡ true)
 
+-- ---- both directions
+
+-- both directions of a connection are cut, or neither is
+abbrev pub IsEven : Link → Type 0
+IsEven k = is_cut k.down ≡ is_cut k.up
+
+-- the same, where there is one
+abbrev pub IsEvenBy : Option Link → Type 0
+IsEvenBy None = Unit {0}
+IsEvenBy (Some k) = IsEven k
+
+-- the same of all connections of a lane
+pub record AreEven (p : Pair) : Type 0 where
+  pub taken : IsEvenBy p.taken
+  pub between : Each IsEven p.between
+  pub newest : IsEvenBy p.newest
+
 -- ---- a lane
 
 -- its readers listen, what it writes are moves, a lane that takes a connection has none, and what was left

@@ -37,18 +37,16 @@ ghost use Rattle.wdt_receiver_fsm.specs.Ready.{is_ready};
 ghost use Rattle.wdt_receiver_fsm.specs.Writes.{CanTell};
 ghost use Rattle.wdt_pact.specs.Belongs.{RecvBelongsAt, RecvFits, SendBelongsAt};
 ghost use Rattle.wdt_pact.specs.Bytes.{FitsFront, FrontDown, FrontUp, bytes_down, bytes_up};
-ghost use Rattle.wdt_pact.specs.Conversation.{Conversation, common, receiving, sending};
+ghost use Rattle.wdt_pact.specs.Conversation.{Conversation, common, receives, receiving, sending, sends};
 ghost use Rattle.wdt_pact.specs.Each.{Each};
 ghost use Rattle.wdt_pact.specs.Finishing.{Finishing};
 ghost use Rattle.wdt_pact.specs.Fitting.{IsSound, lane_of};
-ghost use Rattle.wdt_pact.specs.Links.{Link, front, size_down, size_up};
+ghost use Rattle.wdt_pact.specs.Links.{front, size_down, size_up};
 ghost use Rattle.wdt_pact.specs.Lists.{Splits};
-ghost use Rattle.wdt_pact.specs.Pairs.{RecvDoes, RecvHas, RecvHold, RecvTook, SendDoes, SendHas, SendHold};
+ghost use Rattle.wdt_pact.specs.Pairs.{RecvDoes, RecvHas, RecvTook, SendDoes, SendHas};
 ghost use Rattle.wdt_pact.specs.Progress.{Holds, Moves};
-ghost use Rattle.wdt_pact.specs.Stances.{Agrees, Stance};
 ghost use Rattle.wdt_pact.specs.World.{Cut, PlainWorld, WorldEvent, first_world, happens, number, pair_at, recv_steps, send_steps};
 ghost use Rattle.wdt_sender_fsm.specs.declared.states.SendState.{SendState};
-ghost use Rattle.wdt_receiver_fsm.specs.declared.states.RecvState.{RecvState};
 
 use wdt_receiver_fsm::receivers_stay_receivers;
 use wdt_sender_fsm::{
@@ -225,12 +223,12 @@ pub fn the_finish_is_right()
     histories_are_sound();
 }
 
-/// At each lane an end can move, or the receiver waits for other lanes, or both ends have stopped.
+/// In a sound world its readers listen, what is about to be written are moves, and what was left behind is cut. So at
+/// each lane an end can move, or the receiver waits for other lanes, or both ends have stopped.
 pub fn one_end_can_move()
-    ensures { (sender receiver : Stance) (send : SendState) (receive : RecvState) (s : SendHold) (r : RecvHold) (taken : Option Link) (between : List Link) (newest : Option Link) (denies refusals : ℕ)
-        → Agrees sender receiver taken between newest
-        → Holds sender receiver send receive record { send = s; recv = r; taken = taken; between = between; newest = newest; denies = denies; refusals = refusals }
-        → Moves record { send = s; recv = r; taken = taken; between = between; newest = newest; denies = denies; refusals = refusals } }
+    ensures holds { (w : PlainWorld) (l : ℕ) → IsSound w → l < length w.pairs
+        → Holds (sends (sending w.sender l) (pair_at w l)) (receives (receiving w.receiver l) (pair_at w l)) (state_at w.sender l) (recv.state_at w.receiver l) (pair_at w l) }
+    ensures moves { (w : PlainWorld) (l : ℕ) → IsSound w → l < length w.pairs → Moves (pair_at w l) }
 {}
 
 /// What is read of bytes that were cut anywhere is the message at the front, exactly where it can be taken

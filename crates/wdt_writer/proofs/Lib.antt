@@ -1,4 +1,5 @@
 mod Begun
+pub mod ForCallers
 mod InTheWay
 mod Keeping
 mod Landed

@@ -23,3 +23,6 @@ pub use fail::WriteFail;
 pub use laws::{a_block_that_may_begin_is_on_its_way, blocks_on_their_way_land_in_any_order};
 pub use parts::Part;
 pub use writer::Writer;
+
+#[cfg(test)]
+mod tests;
