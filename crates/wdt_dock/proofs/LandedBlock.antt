@@ -1,5 +1,5 @@
 -- A block that lands: what is to be logged of it, and that the files that it leads to are the tree's.
-use Rattle.std.proofs.Common.{◌≡◌, ◌⊎◌, inl, inr, ℕ, ◌+◌, ◌-◌, ◌<◌, ◌≤◌, Bool, true, false, ◌&&◌, List, [], ◌∷◌, ◌++◌, append-nil, filter, length, Option, Some, None, refl, sym, ap, ◌∙◌, subst, arith}
+use Rattle.std.proofs.Common.{◌≡◌, ◌⊎◌, inl, inr, ℕ, ◌+◌, ◌-◌, ◌<◌, ◌≤◌, Bool, true, false, ◌&&◌, nat_lt, List, [], ◌∷◌, ◌++◌, append-nil, filter, length, Option, Some, None, refl, sym, ap, ◌∙◌, subst, arith}
 use Rattle.std.specs.Prelude.{cond, option_and_then, option_map, if◌then◌else◌, is_some, slice_set, ◌==◌}
 use Rattle.std.specs.List.{list_all, list_any}
 use Rattle.wdt_units.specs.declared.limits.TheConstants.{MAX_BLOCKS}
@@ -8,13 +8,13 @@ use Rattle.wdt_units.specs.Tree.{File, file_of}
 use Rattle.wdt_depot.specs.Disk.{Disk, DiskFile, seen_of}
 use Rattle.wdt_logfmt.specs.declared.entry.LogEntry.{LogEntry}
 use Rattle.wdt_logfmt.specs.declared.entry.LogEntry.TheVariants.{File as Named, Covered}
-use Rattle.wdt_logfmt.specs.Adding.{all_added, just_named, span_at}
+use Rattle.wdt_logfmt.specs.Adding.{added, all_added, can_name, just_named, put_by_number, span_at}
 use Rattle.wdt_logfmt.specs.Batches.{block_entries, entries_of, file_entry, file_entry_by, files_behind, files_or, has_known_file, have_known_files, path_at, path_by, span_entry}
 use Rattle.wdt_logfmt.specs.Beginning.{KnownFile, known_at}
 use Rattle.wdt_logfmt.specs.Landing.{IsAmong}
 use Rattle.wdt_logfmt.specs.Spelling.{written_version}
 use Rattle.wdt_logfmt.specs.View.{NamedFile, is_numbered, is_view}
-use Rattle.wdt_logfmt.proofs.ForCallers.{all_added-append, batch-view, entries-append}
+use Rattle.wdt_logfmt.proofs.ForCallers.{all_added-append, batch-view, entries-append, taken_true}
 use Rattle.wdt_good.specs.Batch.{HoldsBatch, HoldsEntry}
 use Rattle.wdt_good.specs.Good.{Each, FitsTree, GoodFiles, HasBytes, HasTreeBytes, Stands}
 use Rattle.wdt_good.proofs.ForCallers.{batch_good, each_from, holds_more}
@@ -23,13 +23,26 @@ use Rattle.wdt_files.specs.PlainFiles.{AreNamed, known_of}
 use Rattle.wdt_writer.specs.declared.parts.Part.{Part}
 use Rattle.wdt_writer.specs.OnWay.{AreSound, IsOnWay, IsSettled}
 use Rattle.wdt_writer.specs.PlainWriter.{PlainWriter, lands, part_of}
-use Rattle.wdt_writer.proofs.Settling.{named_for, settles}
+use Rattle.wdt_writer.proofs.ForCallers.{settles}
 use Rattle.wdt_receiver_fsm.specs.Batched.{is_filled}
 use Rattle.wdt_dock.specs.Booked.{KnownStand}
 use Rattle.wdt_dock.specs.Desk.{AreBooks}
 use Rattle.wdt_dock.specs.DockGood.{HasPart, IfKnown, IsTrees, StandsWithin}
 use Rattle.wdt_dock.proofs.Lengths.{parted}
 use Rattle.wdt_dock.proofs.Written.{known_file}
+
+-- ---- a file among others
+
+put_splits : (x g : NamedFile) (fs : List NamedFile) → IsAmong g (put_by_number x fs) → (x ≡ g) ⊎ IsAmong g fs
+put_splits x g [] (inl is) = inl is
+put_splits x g [] (inr none) = absurd none
+put_splits x g (f ∷ fs) among = go (put_splits x g fs) (nat_lt x.number f.number) among
+  where
+    go : (IsAmong g (put_by_number x fs) → (x ≡ g) ⊎ IsAmong g fs) → (b : Bool) → IsAmong g (if b then x ∷ f ∷ fs else f ∷ put_by_number x fs) → (x ≡ g) ⊎ IsAmong g (f ∷ fs)
+    go later true (inl is) = inl is
+    go later true (inr more) = inr more
+    go later false (inl is) = inr (inl is)
+    go later false (inr more) = elim (later more) [ inl is ↦ inl is | inr a ↦ inr (inr a) ]
 
 -- ---- the books
 
@@ -48,7 +61,7 @@ module _ (log : OpenLog) (w : PlainWriter) (books : AreBooks log w) (l : ℕ) (p
   abbrev entries : List LogEntry
   entries = block_entries w.known w.files p.block
 
-  leads : (more : List NamedFile) × IsSettled w.known w.files w.parts l p more
+  pub leads : (more : List NamedFile) × IsSettled w.known w.files w.parts l p more
   leads = settles w.known w.files w.parts books.sound.are_files books.sound.are_named books.sound.way l p there
 
   -- the files behind it
@@ -108,12 +121,32 @@ module _ (log : OpenLog) (w : PlainWriter) (books : AreBooks log w) (l : ℕ) (p
 
     -- the file is named, and then its span is laid over it
     named_first : (gs : List NamedFile) → all_added written_version w.files (file_entry w.known w.files p.block.file) ≡ Some gs → AreNamed w.known gs
-    named_first gs adds =
-        let r = named_for w.known w.files books.sound.are_files books.sound.are_named p.block.file way.file way.known_as in
-        subst (AreNamed w.known) (same_files r.0 gs (sym r.1.adds ∙ adds)) r.1.named
+    named_first gs adds = record {
+      view = batch-view written_version w.files gs (file_entry w.known w.files p.block.file) books.sound.are_named.view adds;
+      known_as = λ f among. known_in gs f among (list_any (is_numbered p.block.file) w.files) (known_at w.known p.block.file) refl adds;
+    }
       where
         same_files : (x y : List NamedFile) → Some x ≡ Some y → x ≡ y
         same_files x y e = cc
+
+        as_before : (gs : List NamedFile) (f : NamedFile) → IsAmong f gs → w.files ≡ gs → known_at w.known f.number ≡ Some (known_of f)
+        as_before gs f among is = books.sound.are_named.known_as f (subst (IsAmong f) (sym is) among)
+
+        named : (gs : List NamedFile) (f : NamedFile) → IsAmong f gs → (file : KnownFile) → known_at w.known p.block.file ≡ Some file → (o : Option (List NamedFile)) → o ≡ added written_version w.files (Named p.block.file file.path file.size file.stamp)
+            → option_and_then (λ hs. Some hs) o ≡ Some gs → known_at w.known f.number ≡ Some (known_of f)
+        named gs f among file at None is rest = absurd (cc)
+        named gs f among file at (Some hs) is rest =
+            let x = just_named p.block.file file.path file.size file.stamp in
+            let t = taken_true (can_name w.files p.block.file file.path file.size) (put_by_number x w.files) hs (sym is) in
+            elim (put_splits x f w.files (subst (IsAmong f) (sym (t.1 ∙ same_files hs gs rest)) among)) [
+              | inl new ↦ subst (λ (y : NamedFile). known_at w.known y.number ≡ Some (known_of y)) new at
+              | inr was ↦ books.sound.are_named.known_as f was
+            ]
+
+        known_in : (gs : List NamedFile) (f : NamedFile) → IsAmong f gs → (c : Bool) (o : Option KnownFile) → known_at w.known p.block.file ≡ o → all_added written_version w.files (if c then [] else file_entry_by o p.block.file) ≡ Some gs → known_at w.known f.number ≡ Some (known_of f)
+        known_in gs f among true o at rest = as_before gs f among (same_files w.files gs rest)
+        known_in gs f among false None at rest = as_before gs f among (same_files w.files gs rest)
+        known_in gs f among false (Some file) at rest = named gs f among file at (added written_version w.files (Named p.block.file file.path file.size file.stamp)) refl rest
 
     pub files_landed : GoodFiles T (seen_of d) (files_behind w.files entries)
     files_landed =

@@ -5,10 +5,13 @@ mod Finishing
 mod Goodness
 mod Keeping
 mod LandedBlock
+mod LandRow
+mod Landings
 mod Lengths
 mod LoggedAll
 mod Parting
 mod Results
+mod Taken
 mod Telling
 mod Waiting
 mod Written

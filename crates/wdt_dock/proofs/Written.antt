@@ -29,7 +29,7 @@ use Rattle.wdt_files.specs.PlainFiles.{AreFiles, AreNamed, known_of}
 use Rattle.wdt_writer.specs.declared.parts.Part.{Part}
 use Rattle.wdt_writer.specs.OnWay.{AreApart, IsOnWay}
 use Rattle.wdt_writer.specs.PlainWriter.{place_of}
-use Rattle.wdt_writer.proofs.Named.{spans_of_file}
+use Rattle.wdt_writer.proofs.ForCallers.{spans_of_file}
 use Rattle.wdt_dock.specs.Booked.{KnownStand}
 use Rattle.wdt_dock.specs.DockGood.{HasPart, IfKnown, IsTrees, StandsWithin}
 use Rattle.wdt_dock.proofs.Goodness.{other_path}
@@ -42,9 +42,9 @@ same_some x y e = cc
 in_one : (k o n : ℕ) → has (span_at o n ∷ []) k ≡ true → (o ≤ k) × (k < o + n)
 in_one k o n h = elim (or_cases (is_in k (span_at o n)) false h) [
   | inl is ↦ (elim (cases_lt k o) [
-      | inl low ↦ absurd (let t = outside_is_not_in k (span_at o n) (inl low) in cc)
-      | inr high ↦ elim (cases_lt k (o + n)) [ inl below ↦ (high, below) | inr past ↦ absurd (let t = outside_is_not_in k (span_at o n) (inr past) in cc) ]
-    ])
+    | inl low ↦ absurd (let t = outside_is_not_in k (span_at o n) (inl low) in cc)
+    | inr high ↦ elim (cases_lt k (o + n)) [ inl below ↦ (high, below) | inr past ↦ absurd (let t = outside_is_not_in k (span_at o n) (inr past) in cc) ]
+  ])
   | inr other ↦ absurd (cc)
 ]
 
@@ -103,8 +103,7 @@ bytes_grow o len left bytes tree x short fits has_all piece k h =
           (omega (arith, was.0, length-spliced x.seen place bytes), seen_outside_write place bytes x k was.0 (inl old) ∙ was.1)
       | inr new ↦
           let below : k < place + length bytes = omega (arith, within.1, short, fits) in
-          let back : place + (k - place) ≡ k = omega (arith, new) in
-          (
+          let back : place + (k - place) ≡ k = omega (arith, new) in (
             omega (arith, below, length-spliced x.seen place bytes),
             spliced_in x.seen place bytes k new below ∙ piece (k - place) (omega (arith, new, below)) ∙ ap (λ (n : ℕ). slice_index tree n) back,
           )
@@ -132,9 +131,9 @@ module _ (known : List (Option KnownFile)) (files : List NamedFile) (are_files :
   outside_range k out = elim (cases_lt k place) [
     | inl low ↦ inl low
     | inr high ↦ elim (cases_lt k (place + length bytes)) [
-        | inl below ↦ absurd (out (in_span k p.block.offset p.block.length (omega (arith, high)) (omega (arith, below, fits, way.left))))
-        | inr past ↦ inr past
-      ]
+      | inl below ↦ absurd (out (in_span k p.block.offset p.block.length (omega (arith, high)) (omega (arith, below, fits, way.left))))
+      | inr past ↦ inr past
+    ]
   ]
 
   -- the file of the path among the files
