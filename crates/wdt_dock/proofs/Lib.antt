@@ -2,6 +2,8 @@ mod Booking
 mod Choices
 mod Ending
 mod Finishing
+mod Fewness
+mod Flushed
 mod Goodness
 mod Keeping
 mod LandedBlock
@@ -9,6 +11,7 @@ mod LandRow
 mod Landings
 mod Lengths
 mod LoggedAll
+mod Opened
 mod Parting
 mod Results
 mod Taken

@@ -1,5 +1,6 @@
 pub mod Booked
 pub mod Desk
+pub mod Dock
 pub mod DockGood
 pub mod DockView
 pub mod End

@@ -11,19 +11,29 @@
 //! says what hangs together of these: what the writer is to log is what is logged of the blocks that landed,
 //! and on each lane the same block is begun. Each row says which plan's end it comes to, that the ties stand
 //! behind it, and that the end and its disk stay good for the tree.
+//!
+//! `Dock` is all of these, over a depot of its own (`specs/Dock.antt`): it opens a log and begins an end
+//! behind what the log says, logs what landed when it is asked to, and hands its depot back.
 #![tactic(auto)]
 
 mod answers;
 mod choosing;
+mod dock;
 mod dropping;
 mod end;
+mod flushing;
 mod idling;
 mod logging;
+mod opening;
 mod rows;
 mod serving;
+mod wanting;
 
 pub use choosing::choose;
+pub use dock::Dock;
 pub use dropping::lose_connection;
 pub use end::RecvEnd;
+pub use flushing::FlushFail;
 pub use idling::Idling;
 pub use logging::log_all;
+pub use opening::DockFail;
