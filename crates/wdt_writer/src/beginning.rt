@@ -1,5 +1,5 @@
 //! The file of a block that begins.
-ghost use Rattle.std.specs.Prelude.{◌≡◌, ◌<◌, [], true, IfErr, IfOk, OnErr, OnOk, None};
+ghost use Rattle.std.specs.Prelude.{◌≡◌, ◌<◌, [], false, true, IfErr, IfOk, IsErrOf, OnErr, OnOk, None};
 ghost use Rattle.wdt_units.specs.declared.limits.TheConstants.{MAX_FILES};
 ghost use Rattle.wdt_units.specs.Headers.{FitsHeader};
 ghost use Rattle.wdt_logfmt.specs.Beginning.{block_of, is_new, known_count, number_of};
@@ -31,6 +31,7 @@ pub fn number_for<D: Depot>(
     ensures unchanged { OnErr result (files.new ≡ files.old) }
     ensures disk { UsesDisk (CanMake files.old.known header.now) (begun_on files.old.known header.now) (run_begin files.old.known header.now) result (D.state depot.old) (D.state depot.new) }
     ensures fails { IfErr result IsNoRefusal }
+    ensures never { is_new files.old.known header.now ≡ false → IsErrOf result WriteFail.Disk → ⊥ }
     ensures up { is_new files.old.known header.now ≡ true → OnOk result ((D.state depot.new).stop.struck ≡ None) }
     ensures slips { (D.state depot.new).slips ≡ (D.state depot.old).slips }
 {

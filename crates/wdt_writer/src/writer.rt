@@ -1,5 +1,5 @@
 //! A writer of blocks.
-ghost use Rattle.std.specs.Prelude.{◌≡◌, ◌+◌, ◌<◌, ◌≤◌, [], true, length, IfErr, IfOk, IsErrOf, IsSome, IsTrue, None, OnErr, OnOk, Some};
+ghost use Rattle.std.specs.Prelude.{◌≡◌, ◌+◌, ◌<◌, ◌≤◌, [], false, true, length, IfErr, IfOk, IsErrOf, IsSome, IsTrue, None, OnErr, OnOk, Some};
 ghost use Rattle.wdt_units.specs.declared.limits.TheConstants.{MAX_LANES, PIECE};
 ghost use Rattle.wdt_units.specs.Headers.{FitsHeader};
 ghost use Rattle.wdt_depot.specs.Disk.{wrote};
@@ -98,6 +98,7 @@ impl Writer {
         ensures unchanged { OnErr result (IsSameOrSettled self.old self.new) }
         ensures refused { IsAnswered (fault_at self.old header.now) result }
         ensures untouched { IsSome (fault_at self.old header.now) → D.state depot.new ≡ D.state depot.old }
+        ensures never { is_new (self.old).known header.now ≡ false → IsErrOf result WriteFail.Disk → ⊥ }
         ensures disk { fault_at self.old header.now ≡ None → UsesDisk (CanMake (self.old).known header.now) (begun_on (self.old).known header.now)
             (run_begin (self.old).known header.now) result (D.state depot.old) (D.state depot.new) }
         ensures up { is_new (self.old).known header.now ≡ true → OnOk result ((D.state depot.new).stop.struck ≡ None) }
@@ -242,6 +243,7 @@ impl Writer {
         ensures unchanged { OnErr result (IsSameOrSettled self.old self.new) }
         ensures refused { IsAnswered (fault_at self.old header.now) result }
         ensures untouched { IsSome (fault_at self.old header.now) → D.state depot.new ≡ D.state depot.old }
+        ensures never { is_new (self.old).known header.now ≡ false → IsErrOf result WriteFail.Disk → ⊥ }
         ensures disk { fault_at self.old header.now ≡ None → UsesDisk (CanMake (self.old).known header.now) (begun_on (self.old).known header.now)
             (run_begin (self.old).known header.now) result (D.state depot.old) (D.state depot.new) }
         ensures up { is_new (self.old).known header.now ≡ true → OnOk result ((D.state depot.new).stop.struck ≡ None) }

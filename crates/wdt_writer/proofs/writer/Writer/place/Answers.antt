@@ -3,7 +3,10 @@ use Rattle.wdt_units.specs.declared.blocks.Block.{Block}
 use Rattle.wdt_logfmt.specs.declared.entry.LogEntry.TheVariants.{File}
 use Rattle.wdt_logfmt.specs.Beginning.{KnownFile, begin_fault, block_of}
 use Rattle.wdt_logfmt.specs.Marks.{marked_of}
+use Rattle.wdt_files.specs.PlainFiles.{PlainFiles}
+use Rattle.wdt_writer.specs.declared.landing.Last.{Last}
 use Rattle.wdt_writer.specs.declared.parts.Part.{Part}
+use Rattle.wdt_writer.specs.Kept.{IsWriting}
 use Rattle.wdt_writer.specs.Calls.{CanMake, UsesDisk}
 use Rattle.wdt_writer.specs.PlainWriter.{PlainWriter, begins, begun_on, blocks_of, lands, part_at, run_begin}
 use Rattle.wdt_writer.proofs.Landed.{settled_writes}
@@ -67,3 +70,12 @@ returns-clause-placed g c =
     c.in_ok-settle.ensures.laid c.in_ok-number.ensures.known lane idle c.requires.empty none block_is us_is blocks_is
     (c.push_reserved.ensures.items ∙ (λ k. c.reserve.ensures.items k ++ File c.in_ok-number.number (c.in_ok-path.ensures k) h.size h.stamp ∷ [])) (omega (arith, i.pending.ok.0, c.len.ensures, c.reserve.ensures.len))
     ∙ ap (λ (w : PlainWriter). lands (begins w c.args.lane.0 h) c.args.lane.0 (block_of w.known h)) c.self.view_is
+
+pub invariant_of-self-in_err-number : goal.invariant_of-self-in_err-number
+invariant_of-self-in_err-number g c =
+    let i = c.self.inside in
+    let fresh = c.settle.new.files in
+    let now = settled_writes i.files fresh i.unlogged.items i.unlogged_bytes i.parts.items i.last c.self.invariant c.in_ok-settle.ensures.laid c.in_ok-settle.ensures.lawful in
+    subst (λ (fs : PlainFiles). IsWriting fs c.reserve-2.new.self.items i.unlogged_bytes i.parts.items c.settle.new.last) (sym c.in_err-number.ensures.unchanged)
+    (subst (λ (us : List Block). IsWriting fresh us i.unlogged_bytes i.parts.items c.settle.new.last) (sym c.reserve-2.ensures.items)
+    (subst (λ (o : Option Last). IsWriting fresh i.unlogged.items i.unlogged_bytes i.parts.items o) (sym c.in_ok-settle.ensures.last) now))
