@@ -39,6 +39,7 @@ mod CutLaw
 mod Steps
 mod Beginning
 mod Moving
+mod Counting
 mod Taking
 mod Sent
 mod Greeting

@@ -77,10 +77,10 @@ module _ (w : PlainWorld) (l : ℕ) (c : Conversation w) (within : l < length w.
 -- ---- closed lanes are told of
 
 -- what is known of a closed lane
-abbrev ClosedAs : Common → ℕ → Receiving → Type 0
+abbrev pub ClosedAs : Common → ℕ → Receiving → Type 0
 ClosedAs g k r = (n : ℕ) → g.closed k ≡ Some n → (r.past.is_closed ≡ true) × (n ≡ length r.landed)
 
-closed_as : (w : PlainWorld) (k : ℕ) → ClosedAs (common w.receiver) k (receiving w.receiver k)
+pub closed_as : (w : PlainWorld) (k : ℕ) → ClosedAs (common w.receiver) k (receiving w.receiver k)
 closed_as w k n e = go (recv.past_at w.receiver k).is_closed refl e where
   go : (b : Bool) → (recv.past_at w.receiver k).is_closed ≡ b → (if b then Some (length (recv.past_at w.receiver k).landed) else None) ≡ Some n → ((recv.past_at w.receiver k).is_closed ≡ true) × (n ≡ length (receiving w.receiver k).landed)
   go true is e = (is, (let same : length (recv.past_at w.receiver k).landed ≡ n = cc in sym same ∙ sym (length-map (recv.past_at w.receiver k).landed (known_header w.receiver.known))))

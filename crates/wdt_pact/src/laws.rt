@@ -19,6 +19,7 @@ ghost use Rattle.wdt_sender_fsm.specs.declared.inputs.SendIn.TheVariants as inpu
 ghost use Rattle.wdt_sender_fsm.specs.declared.states.SendState.TheVariants as states;
 ghost use Rattle.wdt_pact.specs.Stances.{has_link};
 ghost use Rattle.wdt_sender_fsm.specs.PlainSender.{lane_at, least_queued, new_lane, noted, opened, past_at, state_at, waiting_blocks};
+ghost use Rattle.wdt_sender_fsm.specs.Faults.{count_fault, has_stranger, marks_fault};
 ghost use Rattle.wdt_sender_fsm.specs.Phases.{Message, is_abort, is_named};
 ghost use Rattle.wdt_sender_fsm.specs.Rows.{is_reading, row_of};
 ghost use Rattle.wdt_sender_fsm.specs.Rules.{is_failure};
@@ -189,6 +190,17 @@ pub fn what_is_read_may_come()
         → is_named (row_of (state_at w.sender l) (inputs.Got frame)) ≡ true }
 {
     a_sender_speaks_in_turn();
+}
+
+/// A count that a sender's lane has read is right: it is told of that lane, or of another one that is there, and lies
+/// between what has surely landed and all that the lane has claimed; of a closed lane it is the one that closed it.
+pub fn counts_are_right()
+    ensures greeting { (w : PlainWorld) (l : ℕ) (mark : Mark) → Conversation w → l < length w.pairs → state_at w.sender l ≡ states.ReadLocalCheckpoint → (pair_at w l).send ≡ SendHas (inputs.Got (frames.Greeting mark))
+        → (mark.lane.0 ≡ l) × (count_fault (past_at w.sender l).claims mark.count ≡ None) }
+    ensures marks { (w : PlainWorld) (l : ℕ) (marks : List Mark) → Conversation w → l < length w.pairs → state_at w.sender l ≡ states.ReadReceiverCmd → (pair_at w l).send ≡ SendHas (inputs.Got (frames.ErrMarks marks))
+        → has_stranger (length w.sender.lanes) l marks ≡ false → marks_fault w.sender.history marks ≡ None }
+{
+    histories_are_sound();
 }
 
 /// The blocks that have landed on a lane are the first that its sender claimed, in the same order.
