@@ -10,6 +10,7 @@ mod LandedBlock
 mod LandRow
 mod Landings
 mod Lengths
+mod LandedLogged
 mod LoggedAll
 mod Opened
 mod Parting
