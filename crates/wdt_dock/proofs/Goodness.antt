@@ -95,7 +95,7 @@ part_as : (T : List File) (known : List (Option KnownFile)) (d e : Disk) (left :
 part_as T known d e left None same part = tt
 part_as T known d e left (Some b) same part = λ t found. subst (λ (x : Option (List ℕ)). HasBytes x t.bytes (span_at b.offset (b.length - left) ∷ [])) (sym (same b refl)) (part t found)
 
-other_path : (path : List ℕ) → is_reserved path ≡ false → IsOther path
+pub other_path : (path : List ℕ) → is_reserved path ≡ false → IsOther path
 other_path path free =
     let none = or_parts (bytes_eq path log_path) (bytes_eq path new_log_path) free in
     record { old = eq_sym log_path path ∙ none.0; new = eq_sym new_log_path path ∙ none.1 }

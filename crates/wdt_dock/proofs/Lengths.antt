@@ -124,7 +124,7 @@ filled_length b bs = go (is_filled b)
     go false = omega arith
 
 -- the parts of a block's entries
-parted : (fs gs : List NamedFile) (es ds : List LogEntry) → all_added written_version fs (es ++ ds) ≡ Some gs → (ms : List NamedFile) × (all_added written_version fs es ≡ Some ms) × (all_added written_version ms ds ≡ Some gs)
+pub parted : (fs gs : List NamedFile) (es ds : List LogEntry) → all_added written_version fs (es ++ ds) ≡ Some gs → (ms : List NamedFile) × (all_added written_version fs es ≡ Some ms) × (all_added written_version ms ds ≡ Some gs)
 parted fs gs es ds adds = go (all_added written_version fs es) refl (sym (all_added-append written_version fs es ds) ∙ adds)
   where
     go : (o : Option (List NamedFile)) → all_added written_version fs es ≡ o → option_and_then (λ ms. all_added written_version ms ds) o ≡ Some gs → (ms : List NamedFile) × (all_added written_version fs es ≡ Some ms) × (all_added written_version ms ds ≡ Some gs)

@@ -6,10 +6,16 @@ mod Fewness
 mod Flushed
 mod Goodness
 mod Keeping
+mod LandedBlock
+mod LandRow
+mod Landings
 mod Lengths
+mod LandedLogged
 mod LoggedAll
 mod Opened
 mod Parting
 mod Results
+mod Taken
 mod Telling
 mod Waiting
+mod Written

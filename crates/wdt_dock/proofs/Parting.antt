@@ -42,19 +42,19 @@ without_one (p ∷ parts) zero (suc m) q there = there
 without_one (p ∷ parts) (suc l) zero q there = there
 without_one (p ∷ parts) (suc l) (suc m) q there = without_one parts l m q there
 
-part_gone : (parts : List (Option Part)) (l : ℕ) → part_of (slice_set parts l None) l ≡ None
+pub part_gone : (parts : List (Option Part)) (l : ℕ) → part_of (slice_set parts l None) l ≡ None
 part_gone [] l = refl
 part_gone (p ∷ parts) zero = refl
 part_gone (p ∷ parts) (suc l) = part_gone parts l
 
-part_other : (parts : List (Option Part)) (l k : ℕ) → (k ≡ l → ⊥) → part_of (slice_set parts l None) k ≡ part_of parts k
+pub part_other : (parts : List (Option Part)) (l k : ℕ) → (k ≡ l → ⊥) → part_of (slice_set parts l None) k ≡ part_of parts k
 part_other [] l k ne = refl
 part_other (p ∷ parts) zero zero ne = absurd (ne refl)
 part_other (p ∷ parts) zero (suc k) ne = refl
 part_other (p ∷ parts) (suc l) zero ne = refl
 part_other (p ∷ parts) (suc l) (suc k) ne = part_other parts l k (λ same. ne (ap suc same))
 
-parts_long : (parts : List (Option Part)) (l : ℕ) → length (slice_set parts l None) ≡ length parts
+pub parts_long : (parts : List (Option Part)) (l : ℕ) → length (slice_set parts l None) ≡ length parts
 parts_long [] l = refl
 parts_long (p ∷ parts) zero = refl
 parts_long (p ∷ parts) (suc l) = ap suc (parts_long parts l)
@@ -96,7 +96,7 @@ drops_first r l = record {
   left = λ k ne. ap (λ (x : RecvLane). x.left) (lane_other (noted r (events.Dropped l ∷ [])) l.0 k _ ne);
 }
 
-drops_on : (r s t : PlainReceiver) (l : ℕ) → Drops r s l → Stays s t → Drops r t l
+pub drops_on : (r s t : PlainReceiver) (l : ℕ) → Drops r s l → Stays s t → Drops r t l
 drops_on r s t l a b = record { lanes = b.lanes ∙ a.lanes; none = b.begun l ∙ a.none; begun = λ k ne. b.begun k ∙ a.begun k ne; left = λ k ne. b.left k ∙ a.left k ne }
 
 listens : (t : PlainReceiver) (l : Lane) (used : Bool) → l.0 < length t.lanes → Stays t (listen_by t l used).1

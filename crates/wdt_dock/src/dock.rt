@@ -1,5 +1,5 @@
 //! A receiver's end with its files, as its lanes share it, over a depot.
-ghost use Rattle.std.specs.Prelude.{◌≡◌, ◌↔◌, ◌<◌, ◌≤◌, List, [], length, option_map, replicate, IfErr, IfOk, IsErrOf, None, OnOk};
+ghost use Rattle.std.specs.Prelude.{◌≡◌, ◌↔◌, ◌<◌, ◌≤◌, false, true, List, [], length, option_map, replicate, IfErr, IfOk, IsErrOf, None, OnOk};
 ghost use Rattle.wdt_units.specs.Tree.{File};
 ghost use Rattle.wdt_depot.specs.Disk.{seen_of};
 ghost use Rattle.wdt_depot.specs.Moments.{IfTold};
@@ -8,14 +8,16 @@ ghost use Rattle.wdt_good.specs.LogState.{SaysAs};
 ghost use Rattle.wdt_good.specs.Logged.{AllFit, GoodSince};
 ghost use Rattle.wdt_log.specs.Flushing.{ReadsStand};
 ghost use Rattle.wdt_log.specs.Others.{OthersStand, SlipsStand};
+ghost use Rattle.wdt_sender_fsm.specs.Rules.{is_failure};
 ghost use Rattle.wdt_receiver_fsm.specs.Batched.{IsBatched};
 ghost use Rattle.wdt_receiver_fsm.specs.Logging.{all_logged, flush_calls};
-ghost use Rattle.wdt_receiver_fsm.specs.PlainReceiver.{failed, new_lane, opened, state_at};
+ghost use Rattle.wdt_receiver_fsm.specs.PlainReceiver.{failed, has_finish, new_lane, opened, state_at};
 ghost use Rattle.wdt_receiver_fsm.specs.Receiver.{IsReceiver};
 ghost use Rattle.wdt_dock.specs.Booked.{KnownStand};
 ghost use Rattle.wdt_dock.specs.Dock.{FailedBy, IsRefusal, LogRests, RanFlush, RanOpen, depot_behind, wanted};
 ghost use Rattle.wdt_dock.specs.DockGood.{DockGood};
 ghost use Rattle.wdt_dock.specs.DockView.{HasLostDisk};
+ghost use Rattle.wdt_dock.specs.Landed.{AllLogged, EachLogged};
 
 use crate::end::RecvEnd;
 use crate::flushing::{FlushFail, flush};
@@ -160,12 +162,17 @@ impl<D: Depot + Drop> Dock<D> {
         self.end.history()
     }
 
-    /// How the end fares.
+    /// How the end fares. Of what landed all is logged but for less than a batch, unless the end has failed;
+    /// and behind the finish all is.
     pub fn answer(&self) -> &EndAnswer
         ensures value { result.now ≡ self.now.plain.answer }
         ensures receiver { IsReceiver self.now.plain }
         ensures batched { IsBatched self.now.plain }
+        ensures logged { is_failure self.now.plain.answer ≡ false → IfTold (λ t. AllLogged self.now.plain t.now) (D.state self.now.depot).told }
+        ensures finished { has_finish self.now.plain ≡ true → (HasLostDisk self.now.plain.answer → ⊥) → IfTold (λ t. EachLogged self.now.plain t.now) (D.state self.now.depot).told }
     {
+        // What the log said as it was opened is a view.
+        let _opening = self.end.opening();
         self.end.answer()
     }
 
@@ -177,7 +184,8 @@ impl<D: Depot + Drop> Dock<D> {
         self.end.lane(lane).state
     }
 
-    /// The depot, in which no file is entered, the history and the answer.
+    /// The depot, in which no file is entered, the history and the answer. What of the blocks that landed is
+    /// logged there is as `answer` says.
     pub fn close(self) -> (D, Vec<RecvEvent>, EndAnswer)
         ensures depot { result.0 ≡ self.depot }
         ensures spots { (D.state result.0).spots ≡ [] }
@@ -185,7 +193,11 @@ impl<D: Depot + Drop> Dock<D> {
         ensures answer { result.2 ≡ self.plain.answer }
         ensures receiver { IsReceiver self.plain }
         ensures batched { IsBatched self.plain }
+        ensures logged { is_failure self.plain.answer ≡ false → IfTold (λ t. AllLogged self.plain t.now) (D.state result.0).told }
+        ensures finished { has_finish self.plain ≡ true → (HasLostDisk self.plain.answer → ⊥) → IfTold (λ t. EachLogged self.plain t.now) (D.state result.0).told }
     {
+        // What the log said as it was opened is a view.
+        let _opening = self.end.opening();
         let (history, answer) = self.end.into_parts();
         (self.depot, history, answer)
     }

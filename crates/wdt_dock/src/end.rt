@@ -179,6 +179,14 @@ impl RecvEnd {
         self.opening.have(alloc)
     }
 
+    /// What the log said as it was opened.
+    pub fn opening(&self) -> &LogView
+        ensures value { named_files (result.now).files.items ≡ self.now.opening }
+        ensures view { IsTrue (is_view self.now.opening) }
+    {
+        &self.opening
+    }
+
     /// How many lanes the end has.
     pub fn count(&self) -> u8
         ensures { result ≡ length self.now.lanes }

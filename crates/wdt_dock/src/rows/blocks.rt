@@ -53,7 +53,8 @@ impl RecvEnd {
     pub fn land_block(&mut self, lane: Lane)
         requires lane { lane.0 < length self.old.lanes }
         requires room { 0 < self.old.room }
-        ensures { (books : Books) → noted (with_lane (plain_with self.old books) lane.0 record (lane_in self.old lane.0) { left = 0 }) (RecvEvent.Land lane ∷ []) ≡ plain_with self.new books }
+        ensures plain { (books : Books) → noted (with_lane (plain_with self.old books) lane.0 record (lane_in self.old lane.0) { left = 0 }) (RecvEvent.Land lane ∷ []) ≡ plain_with self.new books }
+        ensures lanes { length self.new.lanes ≡ length self.old.lanes }
     {
         let stand = RecvLane {
             left: 0,

@@ -1,0 +1,23 @@
+use Rattle.std.proofs.Common.{◌≡◌, true, false, ap, subst}
+use Rattle.wdt_depot.specs.Moments.{IfTold}
+use Rattle.wdt_sender_fsm.specs.Rules.{is_failure}
+use Rattle.wdt_receiver_fsm.specs.PlainReceiver.{PlainReceiver, has_finish}
+use Rattle.wdt_dock.specs.DockView.{DockView, HasLostDisk}
+use Rattle.wdt_dock.specs.Landed.{AllLogged, EachLogged}
+use Rattle.wdt_dock.proofs.Keeping.{not_lost}
+use Rattle.wdt_dock.proofs.LandedLogged.{told_all, told_each}
+use Rattle.wdt_dock.proofs.dock.Dock.close.Goals as goal
+
+pub returns-clause-logged : goal.returns-clause-logged
+returns-clause-logged g c =
+    let e = c.self.inside.end in
+    subst (λ (r : PlainReceiver). is_failure r.answer ≡ false → IfTold (λ t. AllLogged r t.now) (g.D.Depot.state c.self.inside.depot).told)
+    (ap (λ v. v.plain) c.self.view_is)
+    (λ sound. told_all e c.self.inside.log c.self.inside.writer c.self.invariant.desk c.self.invariant.batched c.opening-opening.ensures.view (g.D.Depot.state c.self.inside.depot).told (c.self.invariant.rest.rests (not_lost e.answer sound)) sound)
+
+pub returns-clause-finished : goal.returns-clause-finished
+returns-clause-finished g c =
+    let e = c.self.inside.end in
+    subst (λ (r : PlainReceiver). has_finish r ≡ true → (HasLostDisk r.answer → ⊥) → IfTold (λ t. EachLogged r t.now) (g.D.Depot.state c.self.inside.depot).told)
+    (ap (λ v. v.plain) c.self.view_is)
+    (λ finish here. told_each e c.self.inside.log c.self.inside.writer c.self.invariant.desk c.self.invariant.batched c.opening-opening.ensures.view (g.D.Depot.state c.self.inside.depot).told (c.self.invariant.rest.rests here) c.self.invariant.receiver finish)
