@@ -193,13 +193,9 @@ module _ (manifest : List Entry) (block session : ℕ) (log : Meaning) (batch n 
   finishing_first some =
       record {
         tellings = λ l q within talks told. absurd (tells_none l q told);
-        tellers = λ l q. ap (λ (c : Confirm). has c.tellers l) (confirm_is q) ∙ sym (ap (λ (p : RecvPast). has p.telling q) (past_is l));
-        closed = λ l q told. absurd (tells_none l q told);
         confirmed = λ q e. absurd (both_ways (is_confirmed w.receiver.history q) (ap (λ (c : Confirm). c.is_confirmed) (confirm_is q)) e);
         witness = λ sound waits. absurd (waits waits_none);
         ready = λ sound e. absurd (both_ways (can_finish w.receiver) (unready some) e);
-        told = λ l within up. absurd (both_ways (recv.past_at w.receiver l).is_up (ap (λ (p : RecvPast). p.is_up) (past_is l)) up);
-        down = λ l up. record { telling = ap (λ (p : RecvPast). p.telling) (past_is l); idle = ap (λ (p : RecvPast). p.is_idle) (past_is l) };
         empty = λ e. absurd (both_ways (recv.has_finish w.receiver) unfinished e);
         planned = λ e. absurd (both_ways (recv.has_finish w.receiver) unfinished e);
       }

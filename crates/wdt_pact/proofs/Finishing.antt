@@ -22,10 +22,11 @@ use Rattle.wdt_receiver_fsm.specs.declared.states.RecvState.TheVariants as recv_
 use Rattle.wdt_receiver_fsm.specs.declared.events.RecvEvent.TheVariants as recv_events
 use Rattle.wdt_receiver_fsm.specs.PlainReceiver.{PlainReceiver}
 use Rattle.wdt_receiver_fsm.specs.Ready as ready
-use Rattle.wdt_receiver_fsm.specs.Receiver.{Fares}
+use Rattle.wdt_receiver_fsm.specs.Receiver.{Fares, terms_of}
 use Rattle.wdt_receiver_fsm.specs.PlainReceiver as recv
 use Rattle.wdt_receiver_fsm.specs.ReceiverHistory.{RecvPast, Confirm, past_of, past_of-append, confirm_of, confirm_of-append, end_of}
 use Rattle.wdt_receiver_fsm.specs.Sets.{has}
+use Rattle.wdt_receiver_fsm.proofs.ForCallers.{tellers_tell}
 use Rattle.wdt_pact.specs.Links.{Link}
 use Rattle.wdt_pact.specs.Pairs.{SendHold, SendHas, RecvHold, RecvHas}
 use Rattle.wdt_pact.specs.World.{PlainWorld, number, pair_at}
@@ -209,7 +210,7 @@ module _ (sounds : (n : ℕ) (planned : List Block) (h : List SendEvent) (l : �
 
     go : (not (recv.past_at w.receiver k).is_closed ≡ true) ⊎ ((ready.is_confirmed w.receiver.history k || has (confirm_of w.receiver.history k).tellers l) ≡ true) → (ready.is_confirmed w.receiver.history k ≡ true) ⊎ (has (telling w l) k ≡ true)
     go (inl x) = absurd (both_ways (recv.past_at w.receiver k).is_closed (not-true (recv.past_at w.receiver k).is_closed x) closed)
-    go (inr x) = elim (or_cases (ready.is_confirmed w.receiver.history k) (has (confirm_of w.receiver.history k).tellers l) x) [ inl y ↦ inl y | inr y ↦ inr (sym (f.tellers l k) ∙ y) ]
+    go (inr x) = elim (or_cases (ready.is_confirmed w.receiver.history k) (has (confirm_of w.receiver.history k).tellers l) x) [ inl y ↦ inl y | inr y ↦ inr (tellers_tell (terms_of w.receiver) w.receiver.history l k c.receiver.legal ∙ y) ]
 
   -- the lane itself isn't closed
   opens : (recv.past_at w.receiver l).is_closed ≡ false

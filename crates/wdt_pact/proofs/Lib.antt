@@ -51,6 +51,7 @@ mod Closing
 mod Reading
 mod Connecting
 mod Tellings
+mod ToldLanes
 mod Landing
 mod Progress
 mod Falls

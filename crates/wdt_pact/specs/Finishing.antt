@@ -10,7 +10,6 @@ use Rattle.wdt_sender_fsm.specs.PlainSender.{is_closed, waiting_blocks}
 use Rattle.wdt_sender_fsm.specs.Rules.{is_failure}
 use Rattle.wdt_receiver_fsm.specs.PlainReceiver as recv
 use Rattle.wdt_receiver_fsm.specs.Ready.{is_confirmed}
-use Rattle.wdt_receiver_fsm.specs.ReceiverHistory.{confirm_of}
 use Rattle.wdt_receiver_fsm.specs.Sets.{has}
 use Rattle.wdt_pact.specs.Links.{Link}
 use Rattle.wdt_pact.specs.Pairs.{SendHold, SendDoes}
@@ -55,10 +54,6 @@ is_coming w l = coming_on (receives_at w l) (in_hand (pair_at w l).recv ++ down_
 abbrev pub telling : PlainWorld → ℕ → List ℕ
 telling w l = (recv.past_at w.receiver l).telling
 
--- those of which it told on its connection
-abbrev pub told : PlainWorld → ℕ → List ℕ
-told w l = (recv.past_at w.receiver l).told
-
 -- an open lane that asks for the end neither now nor soon; a closed lane that isn't confirmed, nor soon
 abbrev pub BusyBy : Bool → PlainWorld → ℕ → Type 0
 BusyBy false w l = ((recv.past_at w.receiver l).is_idle ≡ false) × (is_coming w l ≡ false)
@@ -89,39 +84,17 @@ IsTelling w l q =
     ⊎ (((pair_at w l).newest ≡ None) × IsTalking (sends_at w l) × (marked_in q (send_in_hand (pair_at w l).send ++ up_sent (pair_at w l).taken) ≡ true)
     ⊎ ((((pair_at w l).newest ≡ None) → IsTalking (sends_at w l) → ⊥) × (has_done (in_hand (pair_at w l).recv ++ down_sent (pair_at w l).taken) ≡ false))))
 
--- ---- closed lanes that were told of, at the receiver
-
--- all of some lanes are among others
-abbrev pub IsWithin : List ℕ → (ℕ → Bool) → Type 0
-IsWithin lanes test = (q : ℕ) → has lanes q ≡ true → test q ≡ true
-
--- what a lane told of is confirmed once it is idle, and until then confirmed or told since it was idle last
-abbrev pub IsToldBy : Bool → PlainWorld → ℕ → Type 0
-IsToldBy true w l = (telling w l ≡ []) × IsWithin (told w l) (is_confirmed w.receiver.history)
-IsToldBy false w l = IsWithin (told w l) (λ q. is_confirmed w.receiver.history q || has (telling w l) q)
-
--- a lane that has no connection tells of none, and isn't idle
-pub record IsDown (w : PlainWorld) (l : ℕ) : Type 0 where
-  pub telling : telling w l ≡ []
-  pub idle : (recv.past_at w.receiver l).is_idle ≡ false
-
 -- ---- all lanes together
 
 pub record Finishing (w : PlainWorld) : Type 0 where
   -- of a closed lane that a lane with a phase tells of, the sender knows or will know, or it is past asking
   pub tellings : (l q : ℕ) → l < length w.pairs → IsTalking (receives_at w l) → has (telling w l) q ≡ true → IsTelling w l q
-  -- the tellers of a closed lane are the lanes that tell of it
-  pub tellers : (l q : ℕ) → has (confirm_of w.receiver.history q).tellers l ≡ has (telling w l) q
-  -- what is told of is closed
-  pub closed : (l q : ℕ) → has (telling w l) q ≡ true → (recv.past_at w.receiver q).is_closed ≡ true
   -- a confirmed lane is closed at the sender
   pub confirmed : (q : ℕ) → is_confirmed w.receiver.history q ≡ true → is_closed w.sender q ≡ true
   -- as long as blocks wait, some lane may still take them
   pub witness : is_failure w.receiver.answer ≡ false → (waiting_blocks w.sender ≡ [] → ⊥) → (l : ℕ) × (l < length w.pairs) × IsBusy w l
   -- a finish that is ready has come
   pub ready : is_failure w.receiver.answer ≡ false → recv.can_finish w.receiver ≡ true → recv.has_finish w.receiver ≡ true
-  pub told : (l : ℕ) → l < length w.pairs → (recv.past_at w.receiver l).is_up ≡ true → IsToldBy (recv.past_at w.receiver l).is_idle w l
-  pub down : (l : ℕ) → (recv.past_at w.receiver l).is_up ≡ false → IsDown w l
   -- behind the finish no block waits, and the sender has a plan
   pub empty : recv.has_finish w.receiver ≡ true → waiting_blocks w.sender ≡ []
   pub planned : recv.has_finish w.receiver ≡ true → is_some w.sender.have ≡ true

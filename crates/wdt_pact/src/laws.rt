@@ -1,7 +1,7 @@
 //! Laws of two ends and their connections, by messages. The functions do nothing: their contracts are
 //! the laws. `specs/Conversation` says how the two ends of each lane fit together; that a step keeps it is
 //! said of each kind of step.
-ghost use Rattle.std.specs.Prelude.{◌≡◌, ℕ, ◌-◌, ◌^◌, ◌<◌, ◌≤◌, ◌++◌, List, [], ◌∷◌, length, replicate, slice_get, take, true, false, Bool, Option, Some, None};
+ghost use Rattle.std.specs.Prelude.{◌≡◌, ◌⊎◌, ℕ, ◌-◌, ◌^◌, ◌<◌, ◌≤◌, ◌++◌, List, [], ◌∷◌, length, replicate, slice_get, take, true, false, Bool, Option, Some, None};
 ghost use Rattle.wdt_units.specs.declared.blocks.Block.{Block};
 ghost use Rattle.wdt_units.specs.declared.blocks.Header.{Header};
 ghost use Rattle.wdt_units.specs.declared.numbers.Conn.{Conn};
@@ -34,7 +34,8 @@ ghost use Rattle.wdt_receiver_fsm.specs.PlainReceiver as recv;
 ghost use Rattle.wdt_receiver_fsm.specs.PlainReceiver.{have_now};
 ghost use Rattle.wdt_receiver_fsm.specs.Rows as recv_rows;
 ghost use Rattle.wdt_receiver_fsm.specs.Rows.{is_reading as receives_in};
-ghost use Rattle.wdt_receiver_fsm.specs.Ready.{is_ready};
+ghost use Rattle.wdt_receiver_fsm.specs.Ready.{is_confirmed, is_ready};
+ghost use Rattle.wdt_receiver_fsm.specs.Sets.{has};
 ghost use Rattle.wdt_receiver_fsm.specs.Writes.{CanTell};
 ghost use Rattle.wdt_pact.specs.Belongs.{RecvBelongsAt, RecvFits, SendBelongsAt};
 ghost use Rattle.wdt_pact.specs.Bytes.{FitsFront, FrontDown, FrontUp, bytes_down, bytes_up};
@@ -221,6 +222,14 @@ pub fn every_event_keeps_a_world_sound()
     steps_have_outcomes();
     steps_touch_their_lane();
 }
+
+/// A receiver's lane tells of closed lanes alone. What it told of on its connection the sender knows, or the lane isn't
+/// idle and tells of it still.
+pub fn lanes_tell_of_closed_lanes()
+    ensures closed { (w : PlainWorld) (l q : ℕ) → Conversation w → has (recv.past_at w.receiver l).telling q ≡ true → (recv.past_at w.receiver q).is_closed ≡ true }
+    ensures known { (w : PlainWorld) (l q : ℕ) → Conversation w → (recv.past_at w.receiver l).is_up ≡ true → has (recv.past_at w.receiver l).told q ≡ true
+        → (is_confirmed w.receiver.history q ≡ true) ⊎ (((recv.past_at w.receiver l).is_idle ≡ false) × (has (recv.past_at w.receiver l).telling q ≡ true)) }
+{}
 
 /// Where a lane reads that nothing more is to come, and the receiver is ready for the finish with it, no block
 /// waits at the sender, and each lane has landed all that it claimed, and holds no block.
