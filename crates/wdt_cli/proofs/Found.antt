@@ -15,6 +15,10 @@ none-means : (bytes : Option (List ℕ)) → IsFound bytes None → meaning_in b
 none-means None h = refl
 none-means (Some bytes) h = absurd h
 
+pub found-means : (bytes : Option (List ℕ)) (found : Option Meaning) → IsFound bytes found → (m : Meaning) × (meaning_in bytes ≡ Ok m)
+found-means bytes (Some m) h = (m, some-means bytes m h)
+found-means bytes None h = (record { files = []; end = 0 }, none-means bytes h)
+
 pub held-some : (told : Option Told) (m : Meaning) (have : List HaveFile) → IfTold (λ t. IsFound (seen_of t.now log_path) (Some m)) told → have ≡ have_of m.files → IsHeld told have
 held-some None m have h is = record { meaning = m; means = tt; is = is }
 held-some (Some t) m have h is = record { meaning = m; means = some-means (seen_of t.now log_path) m h; is = is }

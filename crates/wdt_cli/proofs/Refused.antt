@@ -1,67 +1,63 @@
--- For each command at most one refusal holds, so the one that is answered is it.
-use Rattle.std.proofs.Common.{◌≡◌, Vec, Global, inl, inr, ℕ, List, Option, Some, None, Result, Ok, Err, refl, sym, ap, ◌∙◌, subst, arith}
+-- At most one refusal of a listing, of a log and of a plan holds, so the one that is answered is it.
+use Rattle.std.proofs.Common.{◌≡◌, Vec, Global, inl, inr, ◌⊎◌, ℕ, List, Option, Some, None, Result, Ok, Err, refl, sym, ap, ◌∙◌, subst, arith}
 use Rattle.std.specs.Prelude.{option_and_then, IfOk, IfErr, IsErrOf, IfSome}
-use Rattle.std.proofs.lemmas.List.Sorted.{IsPermutation-sym, IsPermutation-trans}
 use Rattle.wdt_units.specs.Counts.{Rises, Stands}
 use Rattle.wdt_tree.specs.declared.entry.Entry.{Entry}
 use Rattle.wdt_tree.specs.declared.manifest.ManifestFail.{ManifestFail}
-use Rattle.wdt_tree.specs.declared.manifest.ManifestFail.TheVariants as fail
-use Rattle.wdt_tree.specs.Listing.{IsAccepted, IsRefused, Orders, Refuses}
+use Rattle.wdt_tree.specs.declared.manifest.ManifestFail.TheVariants as checks
+use Rattle.wdt_tree.specs.Listing.{IsAccepted, IsRefused, Orders, Refuses as ChecksFor}
 use Rattle.wdt_tree.proofs.Shared.{accepts, refuses}
-use Rattle.wdt_depot.specs.Moments.{Told}
+use Rattle.wdt_depot.specs.Disk.{seen_of}
+use Rattle.wdt_depot.specs.Moments.{IfTold, Told}
 use Rattle.wdt_logfmt.specs.View.{Meaning, have_of}
-use Rattle.wdt_discover.specs.Plan.{refusal}
-use Rattle.wdt_rehearsal.proofs.Unique.{one-order}
+use Rattle.wdt_good.specs.Good.{log_of, log_path}
+use Rattle.wdt_rehearsal.proofs.ForCallers.{one-list}
 use Rattle.wdt_sender_fsm.specs.declared.answers.RefusedKind.{RefusedKind}
 use Rattle.wdt_sender_fsm.specs.declared.answers.RefusedKind.TheVariants.{BadScript, BadPath, Reserved, Twice, TooMany, TooLarge, TooManyBlocks, Stale, BadLog}
-use Rattle.wdt_rehearsal.specs.declared.rehearsal.Failure.{Failure}
-use Rattle.wdt_rehearsal.specs.declared.rehearsal.Failure.TheVariants as failure
-use Rattle.wdt_words.specs.declared.command.Command.TheVariants.{Plan}
+use Rattle.wdt_words.specs.declared.command.Command.{Command}
+use Rattle.wdt_words.specs.declared.command.Command.TheVariants.{Rehearse, Plan, Log}
+use Rattle.wdt_cli.specs.declared.fail.CommandFail.{CommandFail}
+use Rattle.wdt_cli.specs.declared.fail.CommandFail.TheVariants as fails
+use Rattle.wdt_cli.specs.declared.status.Status.{Status}
+use Rattle.wdt_cli.specs.Causes.{IsCauseOf, IsFailureEnd, IsLogFail, IsRefusalEnd, RefusesCommand}
+use Rattle.wdt_cli.specs.Failures.{check_kind, plan_kind}
 use Rattle.wdt_cli.specs.Plans.{IsPlan}
-use Rattle.wdt_cli.specs.Refusals.{Grounds, grounds_of, plan_refusal, unplanned_kind, with_log, IsCauseOf, IsListingRefused, IsLogRefused, IsPlanRefused, IsUnplanned}
-use Rattle.wdt_rehearsal.specs.Causes.{RefusesRun, IsRefusedFor as IsRehearsalRefused}
-use Rattle.wdt_cli.specs.Listings.{IsListingCause}
+use Rattle.wdt_cli.specs.Refusals.{plan_refusal, IsListingRefused, IsLogRefused, IsPlanCause, IsUnplanned}
+use Rattle.wdt_cli.specs.Refusing.{EndsForListing, Refuses, RefusesListing, RefusesLog, RefusesPlan}
+use Rattle.wdt_cli.specs.Stored.{IsShown}
+use Rattle.wdt_cli.proofs.Found.{found-means}
 
 -- ---- listings
 
-kind_of : ManifestFail → Option RefusedKind
-kind_of (fail.TooMany count) = Some (TooMany count)
-kind_of (fail.BadPath at) = Some (BadPath at)
-kind_of (fail.Reserved at) = Some (Reserved at)
-kind_of (fail.Twice at) = Some (Twice at)
-kind_of (fail.TooLarge at) = Some (TooLarge at)
-kind_of fail.NoMemory = None
-
-listing-fail : (listing : List Entry) (kind : RefusedKind) → IsListingRefused listing kind → (f : ManifestFail) × IsRefused listing f × (kind_of f ≡ Some kind)
-unfolding kind_of
-listing-fail listing (BadPath at) h = (fail.BadPath at, h, refl)
-listing-fail listing (Reserved at) h = (fail.Reserved at, h, refl)
-listing-fail listing (Twice at) h = (fail.Twice at, h, refl)
-listing-fail listing (TooMany count) h = (fail.TooMany count, h, refl)
-listing-fail listing (TooLarge at) h = (fail.TooLarge at, h, refl)
+listing-fail : (listing : List Entry) (kind : RefusedKind) → IsListingRefused listing kind → (f : ManifestFail) × IsRefused listing f × (check_kind f ≡ Some kind)
+listing-fail listing (BadPath at) h = (checks.BadPath at, h, refl)
+listing-fail listing (Reserved at) h = (checks.Reserved at, h, refl)
+listing-fail listing (Twice at) h = (checks.Twice at, h, refl)
+listing-fail listing (TooMany count) h = (checks.TooMany count, h, refl)
+listing-fail listing (TooLarge at) h = (checks.TooLarge at, h, refl)
 listing-fail listing (BadScript line) h = absurd h
 listing-fail listing (TooManyBlocks count) h = absurd h
 listing-fail listing (Stale path logged found) h = absurd h
 listing-fail listing (BadLog at) h = absurd h
 
-same-fail : (listing : List Entry) (f g : ManifestFail) → IsRefused listing f → Refuses {A = Unit {0}} (Err f) g → f ≡ g
-same-fail listing fail.NoMemory g is h = absurd is
-same-fail listing (fail.TooMany count) g is h = h
-same-fail listing (fail.BadPath at) g is h = h
-same-fail listing (fail.Reserved at) g is h = h
-same-fail listing (fail.Twice at) g is h = h
-same-fail listing (fail.TooLarge at) g is h = h
+same-fail : (listing : List Entry) (f g : ManifestFail) → IsRefused listing f → ChecksFor {A = Unit {0}} (Err f) g → f ≡ g
+same-fail listing checks.NoMemory g is h = absurd is
+same-fail listing (checks.TooMany count) g is h = h
+same-fail listing (checks.BadPath at) g is h = h
+same-fail listing (checks.Reserved at) g is h = h
+same-fail listing (checks.Twice at) g is h = h
+same-fail listing (checks.TooLarge at) g is h = h
 
 one-listing : (listing : List Entry) (k j : RefusedKind) → IsListingRefused listing k → IsListingRefused listing j → k ≡ j
 one-listing listing k j a b =
     let x = listing-fail listing k a in
     let y = listing-fail listing j b in
     let same : x.0 ≡ y.0 = same-fail listing x.0 y.0 x.1 (refuses (Unit {0}) listing x.0 (λ other. x.1) y.0 y.1) in
-    let s : Some k ≡ Some j = sym x.2 ∙ (ap kind_of same ∙ y.2) in
+    let s : Some k ≡ Some j = sym x.2 ∙ (ap check_kind same ∙ y.2) in
     cc
 
-not-listing : (listing : List Entry) (k : RefusedKind) → IsAccepted listing → IsListingRefused listing k → ⊥
-not-listing listing k accepted a = let x = listing-fail listing k a in accepts listing accepted x.0 x.1
+not-listing : (A : Type 0) (listing : List Entry) (k : RefusedKind) → IsAccepted listing → IsListingRefused listing k → A
+not-listing A listing k accepted a = let x = listing-fail listing k a in absurd (accepts listing accepted x.0 x.1)
 
 -- ---- logs
 
@@ -84,127 +80,161 @@ one-log log k j a b =
     let same : x.0 ≡ y.0 = cc in
     x.2 ∙ (ap BadLog same ∙ sym y.2)
 
-not-log : (log : Result Meaning ℕ) (m : Meaning) (k : RefusedKind) → log ≡ Ok m → IsLogRefused log k → ⊥
-not-log log m k means a =
+not-log : (A : Type 0) (log : Result Meaning ℕ) (m : Meaning) (k : RefusedKind) → log ≡ Ok m → IsLogRefused log k → A
+not-log A log m k means a =
     let x = log-fail log k a in
     let s : Ok m ≡ Err x.0 = sym means ∙ x.1 in
-    cc
+    absurd cc
 
 -- ---- plans
-
-one-list : (listing a b : List Entry) → Orders listing a → Orders listing b → a ≡ b
-one-list listing a b x y = one-order a b x.rising y.rising (IsPermutation-trans a listing b (IsPermutation-sym listing a x.same) y.same)
 
 one-meaning : (log : Result Meaning ℕ) (m n : Meaning) → log ≡ Ok m → log ≡ Ok n → m ≡ n
 one-meaning log m n a b = let s : Ok m ≡ Ok n = sym a ∙ b in cc
 
 -- the plan of the one tree against the one log
-same-plan : (block : ℕ) (g : Grounds) (entries : List Entry) (m : Meaning) (k : RefusedKind) → Orders g.listing entries → g.log ≡ Ok m → IsUnplanned block g k
+same-plan : (block : ℕ) (listing entries : List Entry) (t : Told) (m : Meaning) (k : RefusedKind) → Orders listing entries → log_of (seen_of t.now) ≡ Ok m → IsUnplanned block (Some listing) (Some t) k
     → plan_refusal entries (have_of m.files) block ≡ Some k
-same-plan block g entries m k order means u =
-    let es : u.entries ≡ entries = one-list g.listing u.entries entries u.order order in
-    let ms : u.meaning ≡ m = one-meaning g.log u.meaning m u.means means in
+same-plan block listing entries t m k order means u =
+    let es : u.entries ≡ entries = one-list listing u.entries entries u.order order in
+    let ms : u.meaning ≡ m = one-meaning (log_of (seen_of t.now)) u.meaning m u.means means in
     subst (λ (n : Meaning). plan_refusal entries (have_of n.files) block ≡ Some k) ms
     (subst (λ (xs : List Entry). plan_refusal xs (have_of u.meaning.files) block ≡ Some k) es u.refused)
 
-one-unplanned : (block : ℕ) (g : Grounds) (k j : RefusedKind) → IsUnplanned block g k → IsUnplanned block g j → k ≡ j
-one-unplanned block g k j a b =
-    let s : Some k ≡ Some j = sym (same-plan block g b.entries b.meaning k b.order b.means a) ∙ b.refused in
+one-unplanned : (block : ℕ) (listing : List Entry) (t : Told) (k j : RefusedKind) → IsUnplanned block (Some listing) (Some t) k → IsUnplanned block (Some listing) (Some t) j → k ≡ j
+one-unplanned block listing t k j a b =
+    let s : Some k ≡ Some j = sym (same-plan block listing b.entries t b.meaning k b.order b.means a) ∙ b.refused in
     cc
-
-pub one-plan : (block : ℕ) (g : Grounds) (k j : RefusedKind) → IsPlanRefused block g k → IsPlanRefused block g j → k ≡ j
-one-plan block g k j (inl a) (inl b) = one-listing g.listing k j a b
-one-plan block g k j (inl a) (inr b) = absurd (not-listing g.listing k b.0 a)
-one-plan block g k j (inr a) (inl b) = absurd (not-listing g.listing j a.0 b)
-one-plan block g k j (inr (ta, inl a)) (inr (tb, inl b)) = one-log g.log k j a b
-one-plan block g k j (inr (ta, inl a)) (inr (tb, inr b)) = absurd (not-log g.log b.meaning k b.means a)
-one-plan block g k j (inr (ta, inr a)) (inr (tb, inl b)) = absurd (not-log g.log a.meaning j a.means b)
-one-plan block g k j (inr (ta, inr a)) (inr (tb, inr b)) = one-unplanned block g k j a b
 
 -- a plan that is there isn't refused
-not-plan : (block : ℕ) (g : Grounds) (entries : List Entry) (m : Meaning) (k : RefusedKind) → IsAccepted g.listing → Orders g.listing entries → g.log ≡ Ok m
-    → refusal entries (have_of m.files) block ≡ None → IsPlanRefused block g k → ⊥
-not-plan block g entries m k accepted order means fits (inl a) = not-listing g.listing k accepted a
-not-plan block g entries m k accepted order means fits (inr (ta, inl a)) = not-log g.log m k means a
-not-plan block g entries m k accepted order means fits (inr (ta, inr a)) =
-    let s : None ≡ Some k = sym (ap (option_and_then unplanned_kind) fits) ∙ same-plan block g entries m k order means a in
-    cc
+not-plan : (A : Type 0) (block : ℕ) (listing : List Entry) (t : Told) (text : List ℕ) (k : RefusedKind) → IsPlan block (Some listing) (Some t) text → IsUnplanned block (Some listing) (Some t) k → A
+not-plan A block listing t text k plan u =
+    let s : None ≡ Some k = sym (ap (option_and_then plan_kind) plan.fits) ∙ same-plan block listing plan.entries t plan.meaning k plan.order plan.means u in
+    absurd cc
 
 -- ---- so a command is refused for what it is to be refused
 
-not-both : (old new : ℕ) → Rises old new → Stands old new → ⊥
-not-both old new rose stood = omega (arith, rose.more stood.below, stood.same)
+not-both : (A : Type 0) (old new : ℕ) → Rises old new → Stands old new → A
+not-both A old new rose stood = absurd (omega (arith, rose.more stood.below, stood.same))
 
-pub plan-refuses : (block : ℕ) (listing : Option (List Entry)) (told : Option Told) (before after before2 after2 : ℕ) (result : Result (Vec ℕ Global) Failure)
-    → IfOk result (λ text. IsPlan block listing told text.items) → IfErr result (IsCauseOf (grounds_of (Plan block) listing told) (IsPlanRefused block))
-    → (IsErrOf result failure.Source → Rises before after) → (IsErrOf result failure.Disk → Rises before2 after2)
-    → IfSome (grounds_of (Plan block) listing told) (λ g. (kind : RefusedKind) → IsPlanRefused block g kind → Stands before after → Stands before2 after2 → RefusesRun result kind)
-plan-refuses block None told before after before2 after2 result plan cause source disk = tt
-plan-refuses block (Some listing) None before after before2 after2 result plan cause source disk = tt
-plan-refuses block (Some listing) (Some t) before after before2 after2 (Ok text) plan cause source disk =
-    λ kind refused stood stood2. not-plan block (with_log listing t) plan.entries plan.meaning kind plan.accepted plan.order plan.means plan.fits refused
-plan-refuses block (Some listing) (Some t) before after before2 after2 (Err failure.Source) plan cause source disk =
-    λ kind refused stood stood2. not-both before after (source refl) stood
-plan-refuses block (Some listing) (Some t) before after before2 after2 (Err failure.Disk) plan cause source disk =
-    λ kind refused stood stood2. not-both before2 after2 (disk refl) stood2
-plan-refuses block (Some listing) (Some t) before after before2 after2 (Err (failure.Refused other)) plan cause source disk =
-    λ kind refused stood stood2. one-plan block (with_log listing t) other kind cause refused
-plan-refuses block (Some listing) (Some t) before after before2 after2 (Err failure.NoMemory) plan cause source disk = λ kind refused stood stood2. tt
-
--- ---- a listing is refused before anything else is asked
-
--- a listing that is accepted is refused for nothing
-pub listing-accepted : (A : Type 0) (listing : Option (List Entry)) (before after : ℕ) (result : Result A Failure) → IfSome listing IsAccepted
-    → IfSome listing (λ entries. (kind : RefusedKind) → IsListingRefused entries kind → Stands before after → RefusesRun result kind)
-listing-accepted A None before after result accepted = tt
-listing-accepted A (Some entries) before after result accepted = λ kind refused stood. absurd (not-listing entries kind accepted refused)
-
--- a listing that isn't taken is refused for just what it is refused for, unless the source fails or memory runs out
-pub listing-failed : (A : Type 0) (listing : Option (List Entry)) (before after : ℕ) (f : Failure) → IsListingCause listing f → (IsErrOf {T = A} (Err f) failure.Source → Rises before after)
-    → IfSome listing (λ entries. (kind : RefusedKind) → IsListingRefused entries kind → Stands before after → RefusesRun {A = A} (Err f) kind)
-listing-failed A None before after f cause source = tt
-listing-failed A (Some entries) before after failure.Source cause source = λ kind refused stood. absurd (not-both before after (source refl) stood)
-listing-failed A (Some entries) before after failure.Disk cause source = absurd cause
-listing-failed A (Some entries) before after (failure.Refused other) cause source = λ kind refused stood. one-listing entries other kind cause refused
-listing-failed A (Some entries) before after failure.NoMemory cause source = λ kind refused stood. tt
-
--- a rehearsal refuses what a listing is refused for
-rehearsal-kind : (entries : List Entry) (kind : RefusedKind) → IsListingRefused entries kind → IsRehearsalRefused entries kind
-rehearsal-kind entries (BadPath at) h = h
-rehearsal-kind entries (Reserved at) h = h
-rehearsal-kind entries (Twice at) h = h
-rehearsal-kind entries (TooMany count) h = h
-rehearsal-kind entries (TooLarge at) h = h
-rehearsal-kind entries (TooManyBlocks count) h = absurd h
-rehearsal-kind entries (Stale path logged found) h = absurd h
-rehearsal-kind entries (BadScript line) h = absurd h
-rehearsal-kind entries (BadLog at) h = absurd h
-
--- a failure refuses the same, whatever would have been answered
-refuses-any : (A B : Type 0) (f : Failure) (kind : RefusedKind) → RefusesRun {A = A} (Err f) kind → RefusesRun {A = B} (Err f) kind
-refuses-any A B failure.Source kind h = h
-refuses-any A B failure.Disk kind h = h
-refuses-any A B (failure.Refused other) kind h = h
-refuses-any A B failure.NoMemory kind h = h
-
--- said of each refusal of a rehearsal's listing, where it is told
-abbrev pub RefusesRehearsal : {A : Type 0} → Option (List Entry) → ℕ → ℕ → Result A Failure → Type 0
-RefusesRehearsal listing before after result = IfSome listing (λ entries. (kind : RefusedKind) → IsRehearsalRefused entries kind → Stands before after → RefusesRun result kind)
-
--- a rehearsal that is done had a listing that is refused for nothing
-pub rehearsed-fine : (A : Type 0) (listing : Option (List Entry)) (before after : ℕ) (r : Result A Failure) (x : A) → RefusesRehearsal listing before after r → r ≡ Ok x
-    → IfSome listing (λ entries. (kind : RefusedKind) → IsListingRefused entries kind → Stands before after → ⊥)
-rehearsed-fine A listing before after r x h is = go listing (subst (λ (q : Result A Failure). RefusesRehearsal listing before after q) is h)
+first-refuses : (block : ℕ) (listing : Option (List Entry)) (told : Option Told) (before after : ℕ) (result : Result (Vec ℕ Global) CommandFail)
+    → IfOk result (λ text. IsPlan block listing told text.items) → IfErr result (IsCauseOf (IsPlanCause block listing told))
+    → (IsErrOf result fails.Source → Rises before after) → (IsErrOf result fails.Disk → IfSome listing IsAccepted)
+    → RefusesListing listing IsListingRefused (Stands before after) (RefusesCommand result)
+first-refuses block None told before after result plan cause source accepted = tt
+first-refuses block (Some entries) told before after (Ok text) plan cause source accepted = λ kind refused stood. not-listing ⊥ entries kind plan.accepted refused
+first-refuses block (Some entries) told before after (Err fails.Source) plan cause source accepted = λ kind refused stood. not-both ⊥ before after (source refl) stood
+first-refuses block (Some entries) told before after (Err fails.Disk) plan cause source accepted = λ kind refused stood. not-listing ⊥ entries kind (accepted refl) refused
+first-refuses block (Some entries) told before after (Err (fails.Refused other)) (plan) cause source accepted = λ kind refused stood. go kind refused cause
   where
-    go : (told : Option (List Entry)) → RefusesRehearsal {A = A} told before after (Ok x) → IfSome told (λ entries. (kind : RefusedKind) → IsListingRefused entries kind → Stands before after → ⊥)
-    go None k = tt
-    go (Some entries) k = λ kind refused stood. k kind (rehearsal-kind entries kind refused) stood
+    go : (kind : RefusedKind) → IsListingRefused entries kind → IsPlanCause block (Some entries) told other → other ≡ kind
+    go kind refused (inl a) = one-listing entries other kind a.1 refused
+    go kind refused (inr (inl b)) = not-listing (other ≡ kind) entries kind b.0 refused
+    go kind refused (inr (inr u)) = not-listing (other ≡ kind) entries kind u.accepted refused
+first-refuses block (Some entries) told before after (Err fails.NoMemory) plan cause source accepted = λ kind refused stood. tt
 
--- and one that failed was refused for just what its listing is refused for
-pub rehearsed-failed : (A B : Type 0) (listing : Option (List Entry)) (before after : ℕ) (r : Result A Failure) (f : Failure) → RefusesRehearsal listing before after r → r ≡ Err f
-    → IfSome listing (λ entries. (kind : RefusedKind) → IsListingRefused entries kind → Stands before after → RefusesRun {A = B} (Err f) kind)
-rehearsed-failed A B listing before after r f h is = go listing (subst (λ (q : Result A Failure). RefusesRehearsal listing before after q) is h)
+logged-refuses : (block : ℕ) (listing : Option (List Entry)) (told : Option Told) (before after before2 after2 : ℕ) (result : Result (Vec ℕ Global) CommandFail)
+    → IfOk result (λ text. IsPlan block listing told text.items) → IfErr result (IsCauseOf (IsPlanCause block listing told))
+    → (IsErrOf result fails.Source → Rises before after) → (IsErrOf result fails.Disk → Rises before2 after2)
+    → RefusesLog told (Stands before after × Stands before2 after2) (λ kind. RefusesCommand result kind ⊎ EndsForListing listing (RefusesCommand result))
+logged-refuses block listing None before after before2 after2 result plan cause source disk = tt
+logged-refuses block listing (Some t) before after before2 after2 (Ok text) plan cause source disk =
+    λ kind refused stood. not-log (RefusesCommand (Ok text) kind ⊎ EndsForListing listing (RefusesCommand (Ok text))) (log_of (seen_of t.now)) plan.meaning kind plan.means refused
+logged-refuses block listing (Some t) before after before2 after2 (Err fails.Source) plan cause source disk =
+    λ kind refused stood. not-both (RefusesCommand {A = Vec ℕ Global} (Err fails.Source) kind ⊎ EndsForListing listing (RefusesCommand {A = Vec ℕ Global} (Err fails.Source))) before after (source refl) stood.0
+logged-refuses block listing (Some t) before after before2 after2 (Err fails.Disk) plan cause source disk =
+    λ kind refused stood. not-both (RefusesCommand {A = Vec ℕ Global} (Err fails.Disk) kind ⊎ EndsForListing listing (RefusesCommand {A = Vec ℕ Global} (Err fails.Disk))) before2 after2 (disk refl) stood.1
+logged-refuses block listing (Some t) before after before2 after2 (Err (fails.Refused other)) plan cause source disk = λ kind refused stood. go kind refused cause
   where
-    go : (told : Option (List Entry)) → RefusesRehearsal {A = A} told before after (Err f) → IfSome told (λ entries. (kind : RefusedKind) → IsListingRefused entries kind → Stands before after → RefusesRun {A = B} (Err f) kind)
-    go None k = tt
-    go (Some entries) k = λ kind refused stood. refuses-any A B f kind (k kind (rehearsal-kind entries kind refused) stood)
+    go : (kind : RefusedKind) → IsLogRefused (log_of (seen_of t.now)) kind → IsPlanCause block listing (Some t) other
+        → (other ≡ kind) ⊎ EndsForListing listing (RefusesCommand {A = Vec ℕ Global} (Err (fails.Refused other)))
+    go kind refused (inl a) = inr (other, a, refl)
+    go kind refused (inr (inl b)) = inl (one-log (log_of (seen_of t.now)) other kind b.1.1 refused)
+    go kind refused (inr (inr u)) = not-log ((other ≡ kind) ⊎ EndsForListing listing (RefusesCommand {A = Vec ℕ Global} (Err (fails.Refused other)))) (log_of (seen_of t.now)) u.meaning kind u.means refused
+logged-refuses block listing (Some t) before after before2 after2 (Err fails.NoMemory) plan cause source disk = λ kind refused stood. inl tt
+
+planned-refuses : (block : ℕ) (listing : Option (List Entry)) (told : Option Told) (before after before2 after2 : ℕ) (result : Result (Vec ℕ Global) CommandFail)
+    → IfOk result (λ text. IsPlan block listing told text.items) → IfErr result (IsCauseOf (IsPlanCause block listing told))
+    → (IsErrOf result fails.Source → Rises before after) → (IsErrOf result fails.Disk → Rises before2 after2)
+    → IfSome listing (λ entries. IfTold (λ t. (kind : RefusedKind) → IsUnplanned block (Some entries) (Some t) kind → Stands before after → Stands before2 after2 → RefusesCommand result kind) told)
+planned-refuses block None told before after before2 after2 result plan cause source disk = tt
+planned-refuses block (Some listing) None before after before2 after2 result plan cause source disk = tt
+planned-refuses block (Some listing) (Some t) before after before2 after2 (Ok text) plan cause source disk = λ kind u stood stood2. not-plan ⊥ block listing t text.items kind plan u
+planned-refuses block (Some listing) (Some t) before after before2 after2 (Err fails.Source) plan cause source disk = λ kind u stood stood2. not-both ⊥ before after (source refl) stood
+planned-refuses block (Some listing) (Some t) before after before2 after2 (Err fails.Disk) plan cause source disk = λ kind u stood stood2. not-both ⊥ before2 after2 (disk refl) stood2
+planned-refuses block (Some listing) (Some t) before after before2 after2 (Err (fails.Refused other)) plan cause source disk = λ kind u stood stood2. go kind u cause
+  where
+    go : (kind : RefusedKind) → IsUnplanned block (Some listing) (Some t) kind → IsPlanCause block (Some listing) (Some t) other → other ≡ kind
+    go kind u (inl a) = not-listing (other ≡ kind) listing other u.accepted a.1
+    go kind u (inr (inl b)) = not-log (other ≡ kind) (log_of (seen_of t.now)) u.meaning other u.means b.1.1
+    go kind u (inr (inr v)) = one-unplanned block listing t other kind v u
+planned-refuses block (Some listing) (Some t) before after before2 after2 (Err fails.NoMemory) plan cause source disk = λ kind u stood stood2. tt
+
+pub plan-refuses : (block : ℕ) (listing : Option (List Entry)) (told : Option Told) (before after before2 after2 : ℕ) (result : Result (Vec ℕ Global) CommandFail)
+    → IfOk result (λ text. IsPlan block listing told text.items) → IfErr result (IsCauseOf (IsPlanCause block listing told))
+    → (IsErrOf result fails.Source → Rises before after) → (IsErrOf result fails.Disk → Rises before2 after2) → (IsErrOf result fails.Disk → IfSome listing IsAccepted)
+    → RefusesPlan block listing told (Stands before after) (Stands before2 after2) (RefusesCommand result)
+plan-refuses block listing told before after before2 after2 result plan cause source disk accepted = record {
+  first = first-refuses block listing told before after result plan cause source accepted;
+  logged = logged-refuses block listing told before after before2 after2 result plan cause source disk;
+  planned = planned-refuses block listing told before after before2 after2 result plan cause source disk;
+}
+
+-- a log that has no meaning is refused
+pub log-refuses : (told : Option Told) (before after : ℕ) (result : Result (Vec ℕ Global) CommandFail) → IfOk result (λ text. IsShown told text.items) → IfErr result (IsLogFail told)
+    → (IsErrOf result fails.Disk → Rises before after) → RefusesLog told (Stands before after) (RefusesCommand result)
+log-refuses None before after result shown cause disk = tt
+log-refuses (Some t) before after (Ok text) shown cause disk =
+    λ kind refused stood. let m = found-means (seen_of t.now log_path) shown.found shown.there in not-log ⊥ (log_of (seen_of t.now)) m.0 kind m.1 refused
+log-refuses (Some t) before after (Err fails.Source) shown cause disk = absurd cause
+log-refuses (Some t) before after (Err fails.Disk) shown cause disk = λ kind refused stood. not-both ⊥ before after (disk refl) stood
+log-refuses (Some t) before after (Err (fails.Refused other)) shown cause disk = λ kind refused stood. one-log (log_of (seen_of t.now)) other kind cause.1 refused
+log-refuses (Some t) before after (Err fails.NoMemory) shown cause disk = λ kind refused stood. tt
+
+-- ---- what ends a run
+
+listing-more : (listing : Option (List Entry)) (refused : List Entry → RefusedKind → Type 0) (fine : Type 0) (E F : RefusedKind → Type 0) → ((k : RefusedKind) → E k → F k) → RefusesListing listing refused fine E → RefusesListing listing refused fine F
+listing-more None refused fine E F f h = tt
+listing-more (Some entries) refused fine E F f h = λ kind holds stood. f kind (h kind holds stood)
+
+log-more : (told : Option Told) (fine : Type 0) (E F : RefusedKind → Type 0) → ((k : RefusedKind) → E k → F k) → RefusesLog told fine E → RefusesLog told fine F
+log-more None fine E F f h = tt
+log-more (Some t) fine E F f h = λ kind holds stood. f kind (h kind holds stood)
+
+both-more : (listing : Option (List Entry)) (told : Option Told) (E F : RefusedKind → Type 0) (P : List Entry → Told → RefusedKind → Type 0) (source depot : Type 0) → ((k : RefusedKind) → E k → F k)
+    → IfSome listing (λ entries. IfTold (λ t. (kind : RefusedKind) → P entries t kind → source → depot → E kind) told)
+    → IfSome listing (λ entries. IfTold (λ t. (kind : RefusedKind) → P entries t kind → source → depot → F kind) told)
+both-more None told E F P source depot f h = tt
+both-more (Some entries) None E F P source depot f h = tt
+both-more (Some entries) (Some t) E F P source depot f h = λ kind holds fine fine2. f kind (h kind holds fine fine2)
+
+-- what refuses by one end does so by another that follows
+pub refuses-more : (command : Command) (listing : Option (List Entry)) (told : Option Told) (source depot : Type 0) (E F : RefusedKind → Type 0) → ((k : RefusedKind) → E k → F k)
+    → Refuses command listing told source depot E → Refuses command listing told source depot F
+refuses-more Rehearse listing told source depot E F f h = listing-more listing _ source E F f h
+refuses-more Log listing told source depot E F f h = log-more told depot E F f h
+refuses-more (Plan block) listing told source depot E F f h = record {
+  first = listing-more listing IsListingRefused source E F f h.first;
+  logged = log-more told (source × depot) (λ kind. E kind ⊎ EndsForListing listing E) (λ kind. F kind ⊎ EndsForListing listing F) either h.logged;
+  planned = both-more listing told E F (λ entries t kind. IsUnplanned block (Some entries) (Some t) kind) source depot f h.planned;
+}
+  where
+    either : (kind : RefusedKind) → E kind ⊎ EndsForListing listing E → F kind ⊎ EndsForListing listing F
+    either kind (inl e) = inl (f kind e)
+    either kind (inr x) = inr (x.0, x.1, f x.0 x.2)
+
+-- a run whose command failed ends by its refusal
+end-refuses : (A : Type 0) (result : Result A CommandFail) (fail : CommandFail) (status : Status) → result ≡ Err fail → IsFailureEnd fail status → (k : RefusedKind) → RefusesCommand result k → IsRefusalEnd k status
+end-refuses A result fail status is end k h = go fail end (subst (λ (r : Result A CommandFail). RefusesCommand r k) is h)
+  where
+    go : (f : CommandFail) → IsFailureEnd f status → RefusesCommand {A = A} (Err f) k → IsRefusalEnd k status
+    go fails.Source ends r = absurd r
+    go fails.Disk ends r = absurd r
+    go (fails.Refused other) ends r = subst (λ (j : RefusedKind). IsRefusalEnd j status) r ends
+    go fails.NoMemory ends r = subst (IsRefusalEnd k) (sym ends) tt
+
+pub command-refuses : (A : Type 0) (words : Option Command) (command : Command) (listing : Option (List Entry)) (told : Option Told) (source depot : Type 0) (result : Result A CommandFail) (fail : CommandFail) (status : Status)
+    → words ≡ Some command → result ≡ Err fail → IsFailureEnd fail status → Refuses command listing told source depot (RefusesCommand result)
+    → IfSome words (λ c. Refuses c listing told source depot (λ kind. IsRefusalEnd kind status))
+command-refuses A words command listing told source depot result fail status is failed end h =
+    subst (λ (w : Option Command). IfSome w (λ c. Refuses c listing told source depot (λ kind. IsRefusalEnd kind status))) (sym is)
+    (refuses-more command listing told source depot (RefusesCommand result) (λ kind. IsRefusalEnd kind status) (end-refuses A result fail status failed end) h)

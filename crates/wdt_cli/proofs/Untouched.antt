@@ -4,9 +4,9 @@ use Rattle.std.specs.Prelude.{IfErr, IsErrOf}
 use Rattle.wdt_units.specs.Schedule.{Schedule}
 use Rattle.wdt_depot.specs.Moments.{Told}
 use Rattle.wdt_depot.specs.State.{Counts, OnlyLooks, State, Stop}
-use Rattle.wdt_rehearsal.specs.declared.rehearsal.Failure.{Failure}
-use Rattle.wdt_rehearsal.specs.declared.rehearsal.Failure.TheVariants as failure
-use Rattle.wdt_rehearsal.specs.Causes.{IsUntouched}
+use Rattle.wdt_cli.specs.declared.fail.CommandFail.{CommandFail}
+use Rattle.wdt_cli.specs.declared.fail.CommandFail.TheVariants as fails
+use Rattle.wdt_cli.specs.Causes.{IsUntouched}
 
 state : Option Told → Stop → List (ℕ × List ℕ) → ℕ → ℕ → ℕ → ℕ → Option Schedule → State
 state told stop spots faults own own_then slips schedule = record { told = told; stop = stop; spots = spots; faults = faults; own = own; own_then = own_then; slips = slips; schedule = schedule }
@@ -22,9 +22,9 @@ still old new looks spots faults own own_then slips =
 unfailed : (failed : Type 0) (old new : State) → OnlyLooks old new → old.spots ≡ [] → new.spots ≡ [] → Counts failed old new → new.slips ≡ old.slips → (failed → ⊥) → new ≡ old
 unfailed failed old new looks before after counts slips fine = still old new looks (after ∙ sym before) (counts.fine fine).0 (counts.fine fine).1 counts.own_then slips
 
-pub looked-untouched : (A : Type 0) (result : Result A Failure) (old new : State) → OnlyLooks old new → old.spots ≡ [] → new.spots ≡ [] → Counts (IsErrOf result failure.Disk) old new → new.slips ≡ old.slips → IfErr result (IsUntouched old new)
+pub looked-untouched : (A : Type 0) (result : Result A CommandFail) (old new : State) → OnlyLooks old new → old.spots ≡ [] → new.spots ≡ [] → Counts (IsErrOf result fails.Disk) old new → new.slips ≡ old.slips → IfErr result (IsUntouched old new)
 looked-untouched A (Ok x) old new looks before after counts slips = tt
-looked-untouched A (Err failure.Source) old new looks before after counts slips = unfailed (IsErrOf {T = A} (Err failure.Source) failure.Disk) old new looks before after counts slips (λ e. cc)
-looked-untouched A (Err failure.Disk) old new looks before after counts slips = tt
-looked-untouched A (Err (failure.Refused kind)) old new looks before after counts slips = unfailed (IsErrOf {T = A} (Err (failure.Refused kind)) failure.Disk) old new looks before after counts slips (λ e. cc)
-looked-untouched A (Err failure.NoMemory) old new looks before after counts slips = tt
+looked-untouched A (Err fails.Source) old new looks before after counts slips = unfailed (IsErrOf {T = A} (Err fails.Source) fails.Disk) old new looks before after counts slips (λ e. cc)
+looked-untouched A (Err fails.Disk) old new looks before after counts slips = tt
+looked-untouched A (Err (fails.Refused kind)) old new looks before after counts slips = unfailed (IsErrOf {T = A} (Err (fails.Refused kind)) fails.Disk) old new looks before after counts slips (λ e. cc)
+looked-untouched A (Err fails.NoMemory) old new looks before after counts slips = tt

@@ -1,10 +1,11 @@
 pub mod Causes
+pub mod Failures
 pub mod Lines
-pub mod Listings
 pub mod LogLines
 pub mod Numbers
 pub mod PlanLines
 pub mod Plans
 pub mod Refusals
+pub mod Refusing
 pub mod Stored
 pub mod Texts

@@ -1,6 +1,5 @@
 -- The plan of a source's tree to a destination.
-use Rattle.std.specs.Prelude.{◌≡◌, ℕ, List, Option, Some, None, Ok, IfSome}
-use Rattle.wdt_units.specs.Have.{HaveFile}
+use Rattle.std.specs.Prelude.{◌≡◌, ℕ, List, Option, None, Ok, IfSome}
 use Rattle.wdt_tree.specs.declared.entry.Entry.{Entry}
 use Rattle.wdt_tree.specs.Listing.{IsAccepted, Orders}
 use Rattle.wdt_tree.specs.Rest.{IsRest}
@@ -9,14 +8,8 @@ use Rattle.wdt_depot.specs.Moments.{IfTold, Told}
 use Rattle.wdt_logfmt.specs.View.{Meaning, have_of}
 use Rattle.wdt_good.specs.Good.{log_of}
 use Rattle.wdt_rest.specs.RestOf.{rest_of}
-use Rattle.wdt_discover.specs.declared.fail.PlanFail.{PlanFail}
-use Rattle.wdt_discover.specs.declared.fail.PlanFail.TheVariants as plans
 use Rattle.wdt_discover.specs.Plan.{refusal}
-use Rattle.wdt_sender_fsm.specs.declared.answers.RefusedKind.TheVariants.{Stale, TooManyBlocks}
-use Rattle.wdt_rehearsal.specs.declared.rehearsal.Failure.{Failure}
-use Rattle.wdt_rehearsal.specs.declared.rehearsal.Failure.TheVariants as failure
 use Rattle.wdt_cli.specs.PlanLines.{plan_text}
-use Rattle.wdt_cli.specs.Refusals.{plan_refusal}
 
 -- The text is that of a plan, in blocks of so many bytes: there is a tree, which is the listing's where that
 -- is told, and a log, which is the destination's where the disk is told. They fit each other, and the
@@ -30,15 +23,3 @@ pub record IsPlan (block : ℕ) (listing : Option (List Entry)) (told : Option T
   pub fits : refusal entries (have_of meaning.files) block ≡ None
   pub rest : IsRest entries (have_of meaning.files) block (rest_of entries (have_of meaning.files) block)
   pub is : text ≡ plan_text entries (rest_of entries (have_of meaning.files) block)
-
--- what a plan refuses, as a failure of the command
-abbrev pub of_planning : PlanFail → Failure
-of_planning (plans.Stale path logged found) = failure.Refused (Stale path logged found)
-of_planning (plans.TooManyBlocks count) = failure.Refused (TooManyBlocks count)
-of_planning plans.NoMemory = failure.NoMemory
-
--- a tree isn't planned to a destination that has some of it, for this cause
-abbrev pub IsPlanningCause : List Entry → List HaveFile → ℕ → Failure → Type 0
-IsPlanningCause entries have block (failure.Refused kind) = plan_refusal entries have block ≡ Some kind
-IsPlanningCause entries have block failure.NoMemory = Unit {0}
-IsPlanningCause entries have block other = ⊥

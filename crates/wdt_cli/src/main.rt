@@ -6,6 +6,7 @@
 #![tactic(auto)]
 
 mod explaining;
+mod fail;
 #[cfg(test)]
 mod fixtures;
 mod help;

@@ -6,58 +6,55 @@ ghost use Rattle.wdt_depot.specs.Moments.{IfTold};
 ghost use Rattle.wdt_depot.specs.State.{Counts, OnlyLooks};
 ghost use Rattle.wdt_logfmt.specs.View.{is_view, meaning_of, named_files};
 ghost use Rattle.wdt_good.specs.Good.{log_path};
-ghost use Rattle.wdt_cli.specs.Stored.{IsFound, IsHeld, IsLogCause, of_depot, of_reading};
+ghost use Rattle.wdt_cli.specs.Causes.{IsLogFail};
+ghost use Rattle.wdt_cli.specs.Stored.{IsFound, IsHeld};
 
+use crate::fail::CommandFail;
 use std::alloc::Global;
 use wdt_depot::{Depot, DepotFail, read_whole};
-use wdt_logfmt::{LogView, ReadLogFail, read_log};
+use wdt_logfmt::{LogView, read_log};
 use wdt_ranges::Have;
-use wdt_rehearsal::Failure;
-use wdt_sender_fsm::RefusedKind;
-use wdt_units::Name;
-
-/// The path of the log.
-const LOG: [u8; 5] = *b".wlog";
+use wdt_units::{LOG_PATH, Name};
 
 /// What the log of a destination says, or None where there is no log. `Disk` comes only where the
 /// depot failed, and `Refused` only for a log without a meaning.
-pub fn stored_log<D: Depot>(alloc: Global, depot: &mut D) -> Result<Option<LogView>, Failure>
+pub fn stored_log<D: Depot>(alloc: Global, depot: &mut D) -> Result<Option<LogView>, CommandFail>
     requires { (D.state depot.old).spots ≡ [] }
     ensures found { IfOk result (λ found. IfTold (λ t. IsFound (seen_of t.now log_path) (option_map meaning_of found)) (D.state depot.old).told) }
     ensures view { IfOk result (λ found. IfSome found (λ view. IsTrue (is_view (named_files view.files.items)))) }
-    ensures refused { IfErr result (IsLogCause (D.state depot.old).told) }
+    ensures refused { IfErr result (IsLogFail (D.state depot.old).told) }
     ensures looks { OnlyLooks (D.state depot.old) (D.state depot.new) }
     ensures spots { (D.state depot.new).spots ≡ [] }
-    ensures counts { Counts (IsErrOf result Failure.Disk) (D.state depot.old) (D.state depot.new) }
+    ensures counts { Counts (IsErrOf result CommandFail.Disk) (D.state depot.old) (D.state depot.new) }
     ensures slips { (D.state depot.new).slips ≡ (D.state depot.old).slips }
 {
     match stored_bytes(alloc, depot) {
         Ok(Some(bytes)) => match read_log(alloc, &bytes) {
             Ok(view) => Ok(Some(view)),
-            Err(fail) => Err(of_reading(fail)),
+            Err(fail) => Err(CommandFail::from(fail)),
         },
         Ok(None) => Ok(None),
-        Err(fail) => Err(of_depot(fail)),
+        Err(fail) => Err(CommandFail::from(fail)),
     }
 }
 
 /// What a destination has by its log: nothing where there is no log. The errors are those of
 /// `stored_log`.
-pub fn stored_have<D: Depot>(alloc: Global, depot: &mut D) -> Result<Have, Failure>
+pub fn stored_have<D: Depot>(alloc: Global, depot: &mut D) -> Result<Have, CommandFail>
     requires { (D.state depot.old).spots ≡ [] }
     ensures held { IfOk result (λ have. IsHeld (D.state depot.old).told have) }
     ensures order { IfOk result (λ have. IsTrue (is_in_order have)) }
-    ensures refused { IfErr result (IsLogCause (D.state depot.old).told) }
+    ensures refused { IfErr result (IsLogFail (D.state depot.old).told) }
     ensures looks { OnlyLooks (D.state depot.old) (D.state depot.new) }
     ensures spots { (D.state depot.new).spots ≡ [] }
-    ensures counts { Counts (IsErrOf result Failure.Disk) (D.state depot.old) (D.state depot.new) }
+    ensures counts { Counts (IsErrOf result CommandFail.Disk) (D.state depot.old) (D.state depot.new) }
     ensures slips { (D.state depot.new).slips ≡ (D.state depot.old).slips }
 {
     match stored_log(alloc, depot) {
         Ok(found) => match found {
             Some(view) => match view.have(alloc) {
                 Ok(have) => Ok(have),
-                Err(_) => Err(Failure::NoMemory),
+                Err(_) => Err(CommandFail::NoMemory),
             },
             None => Ok(Have::none(alloc)),
         },
@@ -74,29 +71,11 @@ fn stored_bytes<D: Depot>(alloc: Global, depot: &mut D) -> Result<Option<Vec<u8>
     ensures counts { Counts (IsErrOf result DepotFail.Failed) (D.state depot.old) (D.state depot.new) }
     ensures slips { (D.state depot.new).slips ≡ (D.state depot.old).slips }
 {
-    let path = Name::of_lawful(alloc, &LOG)?;
+    let path = Name::of_lawful(alloc, &LOG_PATH)?;
     let Some(spot) = depot.enter(&path)? else {
         return Ok(None);
     };
     let read = read_whole(alloc, depot, spot);
     depot.leave(spot);
     Ok(Some(read?))
-}
-
-fn of_depot(fail: DepotFail) -> Failure
-    ensures { result ≡ of_depot fail }
-{
-    match fail {
-        DepotFail::Failed => Failure::Disk,
-        DepotFail::NoMemory => Failure::NoMemory,
-    }
-}
-
-fn of_reading(fail: ReadLogFail) -> Failure
-    ensures { result ≡ of_reading fail }
-{
-    match fail {
-        ReadLogFail::BadLog { at } => Failure::Refused(RefusedKind::BadLog { at }),
-        ReadLogFail::NoMemory => Failure::NoMemory,
-    }
 }

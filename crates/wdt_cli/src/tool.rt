@@ -4,14 +4,15 @@ ghost use Rattle.wdt_units.specs.Counts.{Rises, Stands};
 ghost use Rattle.wdt_depot.specs.Moments.{IfTold};
 ghost use Rattle.wdt_depot.specs.State.{Counts, OnlyLooks};
 ghost use Rattle.wdt_sender_fsm.specs.declared.answers.RefusedKind.{RefusedKind};
-ghost use Rattle.wdt_rehearsal.specs.Causes.{IsUntouched, RefusesRun};
-ghost use Rattle.wdt_rehearsal.specs.Destination.{Lands};
-ghost use Rattle.wdt_cli.specs.Causes.{IsFailureEnd, IsTextEnd, IsDoneOrStarved, IsNoRefusal, IsRefusalEnd, IsUnrefused, LeavesDepot};
+ghost use Rattle.wdt_rehearsal.specs.Destination.{LeavesOthers, Lands};
+ghost use Rattle.wdt_cli.specs.Causes.{IsCauseOf, IsFailureEnd, IsTextEnd, IsDoneOrStarved, IsNoRefusal, IsRefusalEnd, IsUnrefused, IsUntouched, LeavesDepot, RefusesCommand};
 ghost use Rattle.wdt_cli.specs.Lines.{last_line, Got, GotMost, PrintsLine};
-ghost use Rattle.wdt_cli.specs.Refusals.{grounds_of, IfJudged, IfListed, IsCauseOf, IsListingRefused, IsRefusedFor};
+ghost use Rattle.wdt_cli.specs.Refusals.{IsRefusedFor};
+ghost use Rattle.wdt_cli.specs.Refusing.{Refuses};
 ghost use Rattle.wdt_cli.specs.Texts.{IsTextOf, Prints};
 ghost use Rattle.wdt_words.specs.Words.{command_of, HasBlock};
 
+use crate::fail::CommandFail;
 use crate::log::log_command;
 use crate::plan::plan_command;
 use crate::rehearsal::rehearse_command;
@@ -19,7 +20,6 @@ use crate::report::refusal_line;
 use crate::status::{Status, Tooled};
 use std::alloc::Global;
 use wdt_depot::Depot;
-use wdt_rehearsal::Failure;
 use wdt_sender_fsm::RefusedKind;
 use wdt_source::Source;
 use wdt_units::Sink;
@@ -41,6 +41,9 @@ pub fn tool<S: Source, D: Depot, O: Sink>(
     // So it does where only the lines couldn't be written.
     ensures unwritten { command_of (map string_bytes words.now) ≡ Some Command.Rehearse → result.status ≡ Status.OutFault
         → IfSome (S.told source.old) (λ files. Lands files (D.state depot).told (D.state result.depot).told) }
+    // Whatever it answers, every path that the tree doesn't have is as it was, at every moment.
+    ensures others { command_of (map string_bytes words.now) ≡ Some Command.Rehearse
+        → IfSome (S.told source.old) (λ files. LeavesOthers files (D.state depot).told (D.state result.depot).told) }
     // Every other run leaves each file as it was, at every moment, and so does a rehearsal before its
     // tree has come whole. `log` leaves the source alone, and so do words that are no command.
     ensures looks { command_of (map string_bytes words.now) ≢ Some Command.Rehearse → OnlyLooks (D.state depot) (D.state result.depot) }
@@ -55,23 +58,20 @@ pub fn tool<S: Source, D: Depot, O: Sink>(
 
     // Each other status has its cause.
     ensures usage { result.status ≡ Status.Usage ↔ (command_of (map string_bytes words.now) ≡ None) }
-    ensures source_fault { result.status ≡ Status.SourceFault → Rises (S.faults source.old) (S.faults source.new) }
+    ensures source_fault { result.status ≡ Status.SourceFault → (command_of (map string_bytes words.now) ≢ Some Command.Log) × Rises (S.faults source.old) (S.faults source.new) }
     ensures disk { Counts (result.status ≡ Status.DiskFault) (D.state depot) (D.state result.depot) }
     ensures refused { (kind : RefusedKind) → result.status ≡ Status.Refused kind
-        → IfJudged (command_of (map string_bytes words.now)) (S.listing source.old) (D.state depot).told (λ command. λ g. IsRefusedFor command g kind) }
-    // What is refused is refused for just that, unless the source or the depot fails or memory runs out.
-    ensures refuses { IfJudged (command_of (map string_bytes words.now)) (S.listing source.old) (D.state depot).told (λ command. λ g.
-        (kind : RefusedKind) → IsRefusedFor command g kind → Stands (S.faults source.old) (S.faults source.new)
-        → Stands (D.state depot).faults (D.state result.depot).faults → IsRefusalEnd kind result.status) }
-    // So is a listing, whatever is known of the depot and whether it fails: it isn't asked.
-    ensures refuses_listing { IfListed (command_of (map string_bytes words.now)) (S.listing source.old) (λ entries.
-        (kind : RefusedKind) → IsListingRefused entries kind → Stands (S.faults source.old) (S.faults source.new) → IsRefusalEnd kind result.status) }
+        → IfSome (command_of (map string_bytes words.now)) (λ command. IsRefusedFor command (S.listing source.old) (D.state depot).told kind) }
+    // What is refused is refused for just that, unless what is asked up to there fails or memory runs
+    // out: of a listing the source alone, of a log in `log` the depot alone.
+    ensures refuses { IfSome (command_of (map string_bytes words.now)) (λ command. Refuses command (S.listing source.old) (D.state depot).told
+        (Stands (S.faults source.old) (S.faults source.new)) (Stands (D.state depot).faults (D.state result.depot).faults) (λ kind. IsRefusalEnd kind result.status)) }
     ensures out_fault { result.status ≡ Status.OutFault → Rises (O.faults out.old) (O.faults out.new) }
 
-    // Where there is no cause the run is done, or memory ran out.
+    // Where there is no cause the run is done, or memory ran out. `log` asks no source.
     ensures complete { command_of (map string_bytes words.now) ≢ None
-        → Stands (S.faults source.old) (S.faults source.new) → Stands (D.state depot).faults (D.state result.depot).faults
-        → Stands (O.faults out.old) (O.faults out.new)
+        → (command_of (map string_bytes words.now) ≢ Some Command.Log → Stands (S.faults source.old) (S.faults source.new))
+        → Stands (D.state depot).faults (D.state result.depot).faults → Stands (O.faults out.old) (O.faults out.new)
         → IsUnrefused (command_of (map string_bytes words.now)) (S.listing source.old) (D.state depot).told result.status
         → IsDoneOrStarved result.status }
 
@@ -104,22 +104,21 @@ fn run<S: Source, D: Depot>(
     command: Command,
     source: &mut S,
     depot: &mut D,
-) -> Result<Vec<u8>, Failure>
+) -> Result<Vec<u8>, CommandFail>
     requires block { HasBlock command }
     requires spots { (D.state depot.old).spots ≡ [] }
     ensures landed { command ≡ Command.Rehearse → OnOk result (IfSome (S.told source.old) (λ files. Lands files (D.state depot.old).told (D.state depot.new).told)) }
+    ensures others { command ≡ Command.Rehearse → IfSome (S.told source.old) (λ files. LeavesOthers files (D.state depot.old).told (D.state depot.new).told) }
     ensures looks { command ≢ Command.Rehearse → OnlyLooks (D.state depot.old) (D.state depot.new) }
     ensures untouched { IfErr result (IsUntouched (D.state depot.old) (D.state depot.new)) }
     ensures reads_no_source { command ≡ Command.Log → source.new ≡ source.old }
     ensures text { IfOk result (λ text. IsTextOf command (S.listing source.old) (D.state depot.old).told text.items) }
     ensures later { S.faults source.old ≤ S.faults source.new }
-    ensures cause { IsErrOf result Failure.Source → Rises (S.faults source.old) (S.faults source.new) }
-    ensures counts { Counts (IsErrOf result Failure.Disk) (D.state depot.old) (D.state depot.new) }
-    ensures refused { IfErr result (IsCauseOf (grounds_of command (S.listing source.old) (D.state depot.old).told) (IsRefusedFor command)) }
-    ensures refuses { IfSome (grounds_of command (S.listing source.old) (D.state depot.old).told) (λ g. (kind : RefusedKind) → IsRefusedFor command g kind
-        → Stands (S.faults source.old) (S.faults source.new) → Stands (D.state depot.old).faults (D.state depot.new).faults → RefusesRun result kind) }
-    ensures refuses_listing { IfListed (Some command) (S.listing source.old) (λ entries. (kind : RefusedKind) → IsListingRefused entries kind
-        → Stands (S.faults source.old) (S.faults source.new) → RefusesRun result kind) }
+    ensures cause { IsErrOf result CommandFail.Source → (command ≢ Command.Log) × Rises (S.faults source.old) (S.faults source.new) }
+    ensures counts { Counts (IsErrOf result CommandFail.Disk) (D.state depot.old) (D.state depot.new) }
+    ensures refused { IfErr result (IsCauseOf (IsRefusedFor command (S.listing source.old) (D.state depot.old).told)) }
+    ensures refuses { Refuses command (S.listing source.old) (D.state depot.old).told
+        (Stands (S.faults source.old) (S.faults source.new)) (Stands (D.state depot.old).faults (D.state depot.new).faults) (RefusesCommand result) }
     ensures slips { IfSome (S.told source.old) (λ files. S.slips source.new ≡ S.slips source.old) }
     ensures depot_slips { IfTold (λ t. (D.state depot.new).slips ≡ (D.state depot.old).slips) (D.state depot.old).told }
     ensures spots { (D.state depot.new).spots ≡ [] }
@@ -148,15 +147,15 @@ fn put<O: Sink>(lines: Vec<u8>, out: &mut O) -> Status
 }
 
 // Ends with the status and the line of a failure.
-fn fail<O: Sink>(alloc: Global, failure: Failure, out: &mut O) -> Status
+fn fail<O: Sink>(alloc: Global, failure: CommandFail, out: &mut O) -> Status
     ensures end { IsFailureEnd failure result }
     ensures line { PrintsLine result (O.faults out.old) (O.faults out.new) (O.written out.old) (O.written out.new) }
 {
     match failure {
-        Failure::Source => end(Status::SourceFault, out),
-        Failure::Disk => end(Status::DiskFault, out),
-        Failure::Refused(kind) => refuse(alloc, kind, out),
-        Failure::NoMemory => Status::NoMemory,
+        CommandFail::Source => end(Status::SourceFault, out),
+        CommandFail::Disk => end(Status::DiskFault, out),
+        CommandFail::Refused(kind) => refuse(alloc, kind, out),
+        CommandFail::NoMemory => Status::NoMemory,
     }
 }
 

@@ -4,6 +4,7 @@ use Rattle.std.proofs.lemmas.Bool.{and_parts, eq-eqb, leb-true}
 use Rattle.std.proofs.lemmas.List.{length-append}
 use Rattle.std.proofs.lemmas.Slice.Eq.{bytes_eq-Decides}
 use Rattle.wdt_units.specs.Path.{is_reserved}
+use Rattle.wdt_units.proofs.Shared.{same_some}
 use Rattle.wdt_units.specs.Tree.{File, file_of}
 use Rattle.wdt_tree.specs.declared.entry.Entry.{Entry}
 use Rattle.wdt_tree.specs.Listing.{is_entry}
@@ -25,9 +26,6 @@ pub record Front (told : Option (List File)) (entry : Entry) (old now : Landing)
   pub stage : now.stage ≡ less old.stage offset
   pub landed : now.landed ≡ old.landed ++ file_with entry bytes ∷ []
   pub front : IsToldFront told entry.path entry.size bytes
-
-same_some : (a b : Landing) → Some a ≡ Some b → a ≡ b
-same_some a b e = cc
 
 some_is : (found : Option Landing) (s : Landing) → found ≡ Some s → IsSome found
 some_is None s e = absurd cc

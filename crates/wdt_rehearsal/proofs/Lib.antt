@@ -1,10 +1,12 @@
 pub mod Counted
 pub mod Follows
+pub mod ForCallers
 pub mod Fronts
 pub mod Heard
 pub mod Landed
 pub mod Listed
 pub mod Messages
+pub mod Others
 pub mod Pieces
 pub mod Planned
 pub mod Receiving

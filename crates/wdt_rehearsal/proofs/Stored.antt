@@ -1,19 +1,19 @@
 -- Files that come to stand in a depot, call by call.
 use Rattle.std.proofs.Common.{◌≡◌, ℕ, ◌+◌, ◌-◌, ◌≤◌, nat_lt, ◌&&◌, cond, Bool, true, false, List, [], ◌∷◌, ◌++◌, length, take, drop, Option, Some, None, Result, Ok, Err, refl, sym, ap, ◌∙◌, subst, append_assoc, arith}
-use Rattle.std.specs.Prelude.{if◌then◌else◌, option_map, replicate, is_none, ◌^◌, OnOk}
+use Rattle.std.specs.Prelude.{option_map, replicate, is_none, ◌^◌, OnOk}
 use Rattle.std.specs.Str.{bytes_eq}
 use Rattle.std.proofs.Math.Bool.{and-false}
 use Rattle.std.proofs.Math.Seq.{take-length}
-use Rattle.std.proofs.lemmas.Bool.{eq-eqb, le-ltb}
+use Rattle.std.proofs.lemmas.Bool.{le-ltb}
 use Rattle.std.proofs.lemmas.List.{append-nil, drop_all}
 use Rattle.std.proofs.lemmas.Slice.Eq.{bytes_eq-Decides}
 use Rattle.wdt_units.specs.declared.failures.Failed.{Failed}
 use Rattle.wdt_units.specs.Tree.{File, file_of}
 use Rattle.wdt_depot.specs.Disk.{Disk, DiskFile, clean, made, spliced, synced_at, with_file, write_file, wrote}
 use Rattle.wdt_depot.specs.Moments.{Told, IfTold, OneStep, MayDo}
-use Rattle.wdt_depot.specs.State.{State, Counts, CountsSlip, SlipsWhere, at_spot, is_behind, is_far, is_past_end, lacks, path_of, path_or}
+use Rattle.wdt_depot.specs.State.{State, Counts, CountsSlip, SlipsWhere, at_spot, is_behind, is_far, is_past_end, lacks}
 use Rattle.wdt_depot.specs.declared.failure.DepotFail.{DepotFail}
-use Rattle.wdt_depot.proofs.ForCallers.{with_file-same, with_file-other}
+use Rattle.wdt_depot.proofs.ForCallers.{spot_stays, with_file-same, with_file-other}
 use Rattle.wdt_rehearsal.specs.Destination.{Lands, landed_at, landed_over}
 use Rattle.wdt_rehearsal.specs.Storing.{HasAt, HasLanded, IsEmptyAt, IsSettled, IsWritten, Stands}
 
@@ -196,36 +196,27 @@ more-landed all left rest file a b c so_far is next = record {
 
 -- ---- by the states of a depot
 
-spot-stays : (spot : ℕ) (s t : State) → t.spots ≡ s.spots → at_spot spot t ≡ at_spot spot s
-spot-stays spot s t same = ap (λ (es : List (ℕ × List ℕ)). path_or (path_of spot es)) same
-
 -- one more piece
 pub written-at : (spot : ℕ) (front piece whole : List ℕ) (offset : ℕ) (s0 s1 s2 : State) → length front ≡ offset → s1.spots ≡ s0.spots → IsWritten (at_spot spot s0) front s0.told s1.told
     → OneStep (MayDo {E = DepotFail} (wrote (at_spot spot s1) offset piece) (Ok (tt {0}))) s1.told s2.told → whole ≡ front ++ piece → IsWritten (at_spot spot s0) whole s0.told s2.told
 written-at spot front piece whole offset s0 s1 s2 long same at does is =
     subst (λ (bytes : List ℕ). IsWritten (at_spot spot s0) bytes s0.told s2.told) (sym is)
     (written-more (tt {0}) (at_spot spot s0) front piece offset s0.told s1.told s2.told long at
-    (subst (λ (path : List ℕ). OneStep (MayDo {E = DepotFail} (wrote path offset piece) (Ok (tt {0}))) s1.told s2.told) (spot-stays spot s0 s1 same) does))
+    (subst (λ (path : List ℕ). OneStep (MayDo {E = DepotFail} (wrote path offset piece) (Ok (tt {0}))) s1.told s2.told) (spot_stays spot s0 s1 same) does))
 
 -- it is no slip, whether it fails or not
 pub write-slips : {T : Type 0} (F : Type 0) (r : Result T DepotFail) (spot : ℕ) (front : List ℕ) (offset count : ℕ) (s0 s1 s2 : State) → length front ≡ offset → s1.spots ≡ s0.spots
     → IsWritten (at_spot spot s0) front s0.told s1.told → SlipsWhere (is_far (at_spot spot s1) offset count) r F s1 s2 → IsFine s0 s1 → IfTold (λ t. s2.slips ≡ s0.slips) s0.told
 write-slips F r spot front offset count s0 s1 s2 long same at slips fine =
     write-no_slip F r (at_spot spot s0) front offset count s0.slips s0.told s1.told s1 s2 long at
-    (subst (λ (path : List ℕ). IfTold (λ t. CountsSlip (is_far path offset count t.now) r F s1 s2) s1.told) (spot-stays spot s0 s1 same) slips) fine.slips
+    (subst (λ (path : List ℕ). IfTold (λ t. CountsSlip (is_far path offset count t.now) r F s1 s2) s1.told) (spot_stays spot s0 s1 same) slips) fine.slips
 
 -- all of it is synced
 pub settled-at : (spot : ℕ) (bytes : List ℕ) (s0 s1 s2 : State) → s1.spots ≡ s0.spots → IsWritten (at_spot spot s0) bytes s0.told s1.told
     → OneStep (MayDo {E = Failed} (synced_at (at_spot spot s1)) (Ok (tt {0}))) s1.told s2.told → IsSettled (at_spot spot s0) bytes s0.told s2.told
 settled-at spot bytes s0 s1 s2 same at does =
     settled Failed (tt {0}) (at_spot spot s0) bytes s0.told s1.told s2.told at
-    (subst (λ (path : List ℕ). OneStep (MayDo {E = Failed} (synced_at path) (Ok (tt {0}))) s1.told s2.told) (spot-stays spot s0 s1 same) does)
-
--- the path of a spot that was entered last
-pub at_needed : (spot : ℕ) (path : List ℕ) (s t : State) → s.spots ≡ [] → t.spots ≡ s.spots ++ (spot, path) ∷ [] → at_spot spot t ≡ path
-at_needed spot path s t none is =
-    ap (λ (es : List (ℕ × List ℕ)). path_or (path_of spot es)) (is ∙ ap (λ (es : List (ℕ × List ℕ)). es ++ (spot, path) ∷ []) none)
-    ∙ ap (λ (b : Bool). path_or (if b then Some path else None)) (eq-eqb spot spot refl)
+    (subst (λ (path : List ℕ). OneStep (MayDo {E = Failed} (synced_at path) (Ok (tt {0}))) s1.told s2.told) (spot_stays spot s0 s1 same) does)
 
 -- an empty file stands at the path of its spot
 pub needed-empty : (x : Unit {0}) (path at : List ℕ) (s0 s1 s2 : State) → OneStep (MayDo {E = DepotFail} (made path) (Ok x)) s0.told s1.told → s2.told ≡ s1.told → at ≡ path → IsEmptyAt at s2.told

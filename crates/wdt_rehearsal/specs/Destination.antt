@@ -2,7 +2,7 @@
 use Rattle.std.specs.Prelude.{◌≡◌, ℕ, List, Option, Some, None}
 use Rattle.wdt_units.specs.Tree.{File, file_of}
 use Rattle.wdt_depot.specs.Disk.{Disk, DiskFile, clean}
-use Rattle.wdt_depot.specs.Moments.{Told}
+use Rattle.wdt_depot.specs.Moments.{Run, Told}
 
 -- what stands at a path where this file landed, or where none did
 abbrev pub landed_over : Option File → Option DiskFile → Option DiskFile
@@ -21,3 +21,13 @@ Lands files None None = Unit {0}
 Lands files None (Some u) = ⊥
 Lands files (Some t) None = ⊥
 Lands files (Some t) (Some u) = (path : List ℕ) → u.now path ≡ landed_at files t.now path
+
+-- ---- what stays
+
+-- at each path that none of these files has, what stood there stands there still
+abbrev pub KeepsOthers : List File → Disk → Disk → Type 0
+KeepsOthers files d e = (path : List ℕ) → file_of files path ≡ None → e path ≡ d path
+
+-- so it is at every moment since and now, where the disk is told
+abbrev pub LeavesOthers : List File → Option Told → Option Told → Type 0
+LeavesOthers files before after = Run (KeepsOthers files) (KeepsOthers files) before after

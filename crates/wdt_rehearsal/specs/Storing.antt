@@ -3,7 +3,7 @@ use Rattle.std.specs.Prelude.{◌≡◌, ℕ, false, List, [], ◌++◌, Option,
 use Rattle.std.specs.Str.{bytes_eq}
 use Rattle.wdt_units.specs.Tree.{File}
 use Rattle.wdt_depot.specs.Disk.{Disk, DiskFile, clean}
-use Rattle.wdt_depot.specs.Moments.{Told, IfTold}
+use Rattle.wdt_depot.specs.Moments.{Told, IfTold, Run}
 use Rattle.wdt_rehearsal.specs.Destination.{Lands}
 
 -- at a path a file has P, and every other path is as it was
@@ -37,3 +37,11 @@ pub record HasLanded (all left : List File) (before after : Option Told) : Type 
   pub landed : List File
   pub whole : all ≡ left ++ landed
   pub lands : Lands landed before after
+
+-- at every path but this one, what stood there stands there still
+abbrev pub KeepsBeside : List ℕ → Disk → Disk → Type 0
+KeepsBeside path d e = (other : List ℕ) → bytes_eq path other ≡ false → e other ≡ d other
+
+-- so it is at every moment since and now, where the disk is told
+abbrev pub LeavesBeside : List ℕ → Option Told → Option Told → Type 0
+LeavesBeside path before after = Run (KeepsBeside path) (KeepsBeside path) before after

@@ -6,6 +6,7 @@
 //! up. There is one lane, one connection and one session, and no log is read or written.
 #![tactic(auto)]
 
+mod fail;
 mod reading;
 mod receiver;
 mod rehearsal;
@@ -16,5 +17,6 @@ mod storing;
 #[cfg(test)]
 mod tests;
 
-pub use rehearsal::{Failure, Rehearsed, rehearse};
+pub use fail::RehearseFail;
+pub use rehearsal::{Rehearsed, rehearse};
 pub use report::Report;

@@ -3,18 +3,20 @@ ghost use Rattle.std.specs.Prelude.{◌≡◌, [], ◌∷◌, map, IsErrOf, OnOk
 ghost use Rattle.wdt_depot.specs.Moments.{IfTold};
 ghost use Rattle.wdt_depot.specs.State.{Counts, IsEntered, at_spot};
 ghost use Rattle.wdt_tree.specs.Shown.{shown};
-ghost use Rattle.wdt_rehearsal.specs.Destination.{Lands};
-ghost use Rattle.wdt_rehearsal.specs.Storing.{IsEmptyAt, IsSettled, IsWritten};
+ghost use Rattle.wdt_rehearsal.specs.Destination.{LeavesOthers, Lands};
+ghost use Rattle.wdt_rehearsal.specs.Storing.{IsEmptyAt, IsSettled, IsWritten, LeavesBeside};
 
 use wdt_depot::{Depot, DepotFail};
 use wdt_tree::Plain;
 use wdt_units::{PIECE, Spot};
 
 /// Leaves each file in the depot, made anew, written and synced. The last of the list comes first, so
-/// that each file's memory is given back once it is stored. After a failure some files may stand.
+/// that each file's memory is given back once it is stored. After a failure some files may stand; at
+/// every moment each other path is as it was.
 pub fn store<D: Depot>(depot: &mut D, files: Vec<Plain>) -> Result<(), DepotFail>
     requires { (D.state depot.old).spots ≡ [] }
     ensures landed { OnOk result (Lands (map shown files.items) (D.state depot.old).told (D.state depot.new).told) }
+    ensures others { LeavesOthers (map shown files.items) (D.state depot.old).told (D.state depot.new).told }
     ensures spots { (D.state depot.new).spots ≡ [] }
     ensures counts { Counts (IsErrOf result DepotFail.Failed) (D.state depot.old) (D.state depot.new) }
     ensures slips { IfTold (λ t. (D.state depot.new).slips ≡ (D.state depot.old).slips) (D.state depot.old).told }
@@ -26,10 +28,11 @@ pub fn store<D: Depot>(depot: &mut D, files: Vec<Plain>) -> Result<(), DepotFail
     Ok(())
 }
 
-// Leaves one file in the depot.
+// Leaves one file in the depot, and each other path as it is.
 fn store_file<D: Depot>(depot: &mut D, file: &Plain) -> Result<(), DepotFail>
     requires { (D.state depot.old).spots ≡ [] }
     ensures landed { OnOk result (Lands (shown file.now ∷ []) (D.state depot.old).told (D.state depot.new).told) }
+    ensures beside { LeavesBeside file.now.path (D.state depot.old).told (D.state depot.new).told }
     ensures spots { (D.state depot.new).spots ≡ [] }
     ensures counts { Counts (IsErrOf result DepotFail.Failed) (D.state depot.old) (D.state depot.new) }
     ensures slips { IfTold (λ t. (D.state depot.new).slips ≡ (D.state depot.old).slips) (D.state depot.old).told }
@@ -46,6 +49,7 @@ fn fill<D: Depot>(depot: &mut D, spot: Spot, bytes: &[u8]) -> Result<(), DepotFa
     requires entered { IsEntered spot.0 (D.state depot.old) }
     requires empty { IsEmptyAt (at_spot spot.0 (D.state depot.old)) (D.state depot.old).told }
     ensures settled { OnOk result (IsSettled (at_spot spot.0 (D.state depot.old)) bytes.now (D.state depot.old).told (D.state depot.new).told) }
+    ensures beside { LeavesBeside (at_spot spot.0 (D.state depot.old)) (D.state depot.old).told (D.state depot.new).told }
     ensures spots { (D.state depot.new).spots ≡ (D.state depot.old).spots }
     ensures counts { Counts (IsErrOf result DepotFail.Failed) (D.state depot.old) (D.state depot.new) }
     ensures slips { IfTold (λ t. (D.state depot.new).slips ≡ (D.state depot.old).slips) (D.state depot.old).told }
@@ -62,6 +66,7 @@ fn write<D: Depot>(depot: &mut D, spot: Spot, bytes: &[u8]) -> Result<(), DepotF
     requires entered { IsEntered spot.0 (D.state depot.old) }
     requires empty { IsEmptyAt (at_spot spot.0 (D.state depot.old)) (D.state depot.old).told }
     ensures written { OnOk result (IsWritten (at_spot spot.0 (D.state depot.old)) bytes.now (D.state depot.old).told (D.state depot.new).told) }
+    ensures beside { LeavesBeside (at_spot spot.0 (D.state depot.old)) (D.state depot.old).told (D.state depot.new).told }
     ensures spots { (D.state depot.new).spots ≡ (D.state depot.old).spots }
     ensures counts { Counts (IsErrOf result DepotFail.Failed) (D.state depot.old) (D.state depot.new) }
     ensures slips { IfTold (λ t. (D.state depot.new).slips ≡ (D.state depot.old).slips) (D.state depot.old).told }

@@ -3,7 +3,7 @@
 ghost use Rattle.std.specs.Prelude.{◌≡◌, [], IfOk};
 ghost use Rattle.wdt_depot.specs.MemState.{mem_state};
 
-use crate::{Failure, rehearse};
+use crate::{RehearseFail, rehearse};
 use std::alloc::Global;
 use std::process::Abort;
 use std::test::Fail;
@@ -93,6 +93,6 @@ fn a_failing_depot_is_answered(rt: HostRuntime) -> Result<(), Fail> {
     let mut source = source_of(&rt, alloc, &[("a", "hi")])?;
     let mut depot = depot_of(alloc, &[2])?;
     let run = rehearse(alloc, &mut source, &mut depot);
-    assert!(rt; matches!(run, Err(Failure::Disk)));
+    assert!(rt; matches!(run, Err(RehearseFail::Disk)));
     Ok(())
 }

@@ -1,11 +1,9 @@
 use Rattle.std.proofs.Common.{sym, subst}
-use Rattle.std.specs.Prelude.{IfSome}
-use Rattle.wdt_units.specs.Counts.{Stands}
-use Rattle.wdt_sender_fsm.specs.declared.answers.RefusedKind.{RefusedKind}
 use Rattle.wdt_words.specs.declared.command.Command.{Command}
-use Rattle.wdt_cli.specs.Refusals.{grounds_of, IsRefusedFor}
-use Rattle.wdt_rehearsal.specs.Causes.{RefusesRun}
-use Rattle.wdt_cli.proofs.Refused.{plan-refuses}
+use Rattle.wdt_units.specs.Counts.{Stands}
+use Rattle.wdt_cli.specs.Causes.{RefusesCommand}
+use Rattle.wdt_cli.specs.Refusing.{Refuses}
+use Rattle.wdt_cli.proofs.Refused.{log-refuses, plan-refuses}
 use Rattle.wdt_cli.proofs.Untouched.{looked-untouched}
 use Rattle.wdt_cli.proofs.tool.run.Goals as goal
 
@@ -18,8 +16,19 @@ returns-in-Plan-clause-refuses g c =
     let before2 = (g.D.Depot.state c.args.depot.now).faults in
     let after2 = (g.D.Depot.state c.plan_command.new.depot).faults in
     let result = c.plan_command.result in
-    subst (λ (command : Command). IfSome (grounds_of command listing told) (λ grounds. (kind : RefusedKind) → IsRefusedFor command grounds kind → Stands before after → Stands before2 after2 → RefusesRun result kind)) (sym c.in-Plan.is)
-    (plan-refuses c.in-Plan.block listing told before after before2 after2 result c.plan_command.ensures.plan c.plan_command.ensures.refused c.plan_command.ensures.cause c.plan_command.ensures.counts.rose)
+    subst (λ (command : Command). Refuses command listing told (Stands before after) (Stands before2 after2) (RefusesCommand result)) (sym c.in-Plan.is)
+    (plan-refuses c.in-Plan.block listing told before after before2 after2 result c.plan_command.ensures.plan c.plan_command.ensures.refused c.plan_command.ensures.cause c.plan_command.ensures.counts.rose c.plan_command.ensures.accepted)
+
+pub returns-in-Log-clause-refuses : goal.returns-in-Log-clause-refuses
+returns-in-Log-clause-refuses g c =
+    let listing = g.S.Source.listing c.args.source.now in
+    let told = (g.D.Depot.state c.args.depot.now).told in
+    let before = g.S.Source.faults c.args.source.now in
+    let before2 = (g.D.Depot.state c.args.depot.now).faults in
+    let after2 = (g.D.Depot.state c.log_command.new.depot).faults in
+    let result = c.log_command.result in
+    subst (λ (command : Command). Refuses command listing told (Stands before before) (Stands before2 after2) (RefusesCommand result)) (sym c.in-Log.is)
+    (log-refuses told before2 after2 result c.log_command.ensures.shown c.log_command.ensures.refused c.log_command.ensures.counts.rose)
 
 pub returns-in-Plan-clause-untouched : goal.returns-in-Plan-clause-untouched
 returns-in-Plan-clause-untouched g c =
