@@ -1,0 +1,4 @@
+pub mod Acts
+pub mod Held
+pub mod Kept
+pub mod Performing
