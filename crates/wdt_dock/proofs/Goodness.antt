@@ -87,11 +87,11 @@ stands_as [] d e same all = tt
 stands_as (None ∷ slots) d e same all = (tt, stands_as slots d e (λ n file there. same (suc n) file there) all.1)
 stands_as (Some file ∷ slots) d e same all = (stands_by file d e (e file.path) refl (same 0 file refl) all.0, stands_as slots d e (λ n other there. same (suc n) other there) all.1)
 
-files_as : (T : List File) (known : List (Option KnownFile)) (fs : List NamedFile) (d e : Disk) → ((f : NamedFile) → IsAmong f fs → seen_of e f.have.path ≡ seen_of d f.have.path) → GoodFiles T (seen_of d) fs → GoodFiles T (seen_of e) fs
+pub files_as : (T : List File) (known : List (Option KnownFile)) (fs : List NamedFile) (d e : Disk) → ((f : NamedFile) → IsAmong f fs → seen_of e f.have.path ≡ seen_of d f.have.path) → GoodFiles T (seen_of d) fs → GoodFiles T (seen_of e) fs
 files_as T known [] d e same good = tt
 files_as T known (f ∷ fs) d e same good = (subst (λ (o : Option (List ℕ)). GoodFile T o f) (sym (same f (inl refl))) good.0, files_as T known fs d e (λ g among. same g (inr among)) good.1)
 
-part_as : (T : List File) (known : List (Option KnownFile)) (d e : Disk) (left : ℕ) (o : Option Block) → ((b : Block) → o ≡ Some b → seen_of e (path_at known b.file) ≡ seen_of d (path_at known b.file)) → IfSome o (HasPart T known d left) → IfSome o (HasPart T known e left)
+pub part_as : (T : List File) (known : List (Option KnownFile)) (d e : Disk) (left : ℕ) (o : Option Block) → ((b : Block) → o ≡ Some b → seen_of e (path_at known b.file) ≡ seen_of d (path_at known b.file)) → IfSome o (HasPart T known d left) → IfSome o (HasPart T known e left)
 part_as T known d e left None same part = tt
 part_as T known d e left (Some b) same part = λ t found. subst (λ (x : Option (List ℕ)). HasBytes x t.bytes (span_at b.offset (b.length - left) ∷ [])) (sym (same b refl)) (part t found)
 
@@ -108,7 +108,7 @@ named_as_read : (fs : List NamedFile) (d e : Disk) → is_view fs ≡ true → K
 named_as_read fs d e view keeps f among = (let other = each_in (λ g. IsOther g.have.path) fs f (view_others fs view) among in keeps f.have.path other.old other.new)
 
 -- the file of a block that is begun is known
-begun_known : (e : EndView) (log : OpenLog) (w : PlainWriter) → IsDesk e log w → (k : ℕ) → k < length e.lanes → (b : Block) → (past_of e.history k).begun ≡ Some b → (file : KnownFile) × (known_at w.known b.file ≡ Some file)
+pub begun_known : (e : EndView) (log : OpenLog) (w : PlainWriter) → IsDesk e log w → (k : ℕ) → k < length e.lanes → (b : Block) → (past_of e.history k).begun ≡ Some b → (file : KnownFile) × (known_at w.known b.file ≡ Some file)
 begun_known e log w desk k within b begun =
     let part : Part = record { block = b; left = (lane_in e k).left } in
     let here : part_at w k ≡ Some part = desk.parts k within ∙ ap (λ (o : Option Block). part_by o (lane_in e k).left) begun in

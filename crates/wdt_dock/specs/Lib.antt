@@ -1,3 +1,4 @@
+pub mod Beginning
 pub mod Booked
 pub mod Desk
 pub mod Dock

@@ -17,6 +17,7 @@
 #![tactic(auto)]
 
 mod answers;
+mod beginning;
 mod choosing;
 mod dock;
 mod dropping;
@@ -29,6 +30,7 @@ mod rows;
 mod serving;
 mod wanting;
 
+pub use beginning::begin;
 pub use choosing::choose;
 pub use dock::Dock;
 pub use dropping::lose_connection;
