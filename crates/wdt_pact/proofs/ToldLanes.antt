@@ -1,18 +1,17 @@
 -- What a receiver's lane tells of is closed, and what it told of on its connection is confirmed, or the lane tells of it.
-use Rattle.std.proofs.Common.{◌≡◌, ◌⊎◌, inl, inr, ℕ, ◌<◌, ◌≤◌, ◌==◌, ◌||◌, ◌&&◌, not, Bool, true, false, if◌then◌else◌, List, [], ◌∷◌, ◌++◌, filter, length, subst, sym, ap, ◌∙◌, refl, arith, append-nil, append_assoc, eqb-true}
+use Rattle.std.proofs.Common.{◌≡◌, ◌⊎◌, inl, inr, ℕ, ◌==◌, ◌||◌, Bool, true, false, if◌then◌else◌, List, [], ◌∷◌, ◌++◌, filter, subst, sym, ap, ◌∙◌, refl, append-nil, append_assoc, eqb-true}
 use Rattle.std.proofs.lemmas.Bool.{and_parts, both_ways, or_cases}
 use Rattle.std.proofs.lemmas.List.Folds.{list_any-append}
 use Rattle.wdt_units.specs.LaneSets.{has_lane, only_lane}
-use Rattle.wdt_units.specs.declared.numbers.Lane.{Lane}
 use Rattle.wdt_units.specs.declared.numbers.LaneSet.{LaneSet}
 use Rattle.wdt_units.proofs.LaneSetLaws.{in_none, in_only, in_with}
 use Rattle.wdt_receiver_fsm.specs.declared.events.RecvEvent.{RecvEvent}
 use Rattle.wdt_receiver_fsm.specs.declared.events.RecvEvent.TheVariants as events
 use Rattle.wdt_receiver_fsm.specs.Legal.{IsAllowed, IsLegal, IsLegal-more, IsLegal-none, Terms, legal_from}
 use Rattle.wdt_receiver_fsm.specs.PlainReceiver.{PlainReceiver, past_at}
-use Rattle.wdt_receiver_fsm.specs.Ready.{is_closed, is_confirmed, is_untold, untold}
+use Rattle.wdt_receiver_fsm.specs.Ready.{is_confirmed, is_untold, untold}
 use Rattle.wdt_receiver_fsm.specs.Receiver.{IsReceiver, terms_of}
-use Rattle.wdt_receiver_fsm.specs.ReceiverHistory.{Confirm, RecvPast, confirm_after, confirm_of, confirm_of-append, confirm_of-none, past_after, past_of, past_of-append, past_of-none}
+use Rattle.wdt_receiver_fsm.specs.ReceiverHistory.{Confirm, RecvPast, confirm_after, confirm_of, confirm_of-append, past_after, past_of, past_of-append, past_of-none}
 use Rattle.wdt_receiver_fsm.specs.Sets.{has, lanes_of, numbers, set_of}
 use Rattle.wdt_receiver_fsm.proofs.ForCallers.{tellers_tell}
 
