@@ -1,6 +1,6 @@
 -- Which end of its plan a block's header comes to.
-use Rattle.std.proofs.Common.{◌≡◌, ◌⊎◌, inl, inr, ℕ, zero, suc, ◌+◌, ◌<◌, ◌≤◌, Bool, true, false, nat_le, List, [], ◌∷◌, ◌++◌, length, map, Option, Some, None, Result, Ok, Err, refl, sym, ap, ◌∙◌, subst, arith}
-use Rattle.std.specs.Prelude.{IfErr, IsErrOf, IsSome, if◌then◌else◌, is_ok, option_map, slice_get}
+use Rattle.std.proofs.Common.{◌≡◌, inl, inr, ℕ, zero, suc, ◌+◌, ◌<◌, ◌≤◌, Bool, true, false, nat_le, List, [], ◌∷◌, ◌++◌, length, map, Option, Some, None, Err, refl, sym, ap, ◌∙◌, subst, arith}
+use Rattle.std.specs.Prelude.{IsErrOf, IsSome, if◌then◌else◌, option_map}
 use Rattle.std.specs.List.{flat_map}
 use Rattle.std.proofs.lemmas.Bool.{le-leb, lt-leb}
 use Rattle.std.proofs.lemmas.Option.{same_Some}
@@ -10,29 +10,26 @@ use Rattle.wdt_units.specs.declared.blocks.Header.{Header}
 use Rattle.wdt_units.specs.declared.numbers.Lane.{Lane}
 use Rattle.wdt_depot.specs.Programs.{Calls, Drive, IsQuiet, drive_of, run_make}
 use Rattle.wdt_depot.specs.State.{State}
-use Rattle.wdt_logfmt.specs.Beginning.{BeginFault, KnownFile, OverLimit, Overlap, SizeDiffers, begin_fault, block_of, is_new}
+use Rattle.wdt_logfmt.specs.Beginning.{BeginFault, OverLimit, Overlap, SizeDiffers, block_of, is_new}
 use Rattle.wdt_logfmt.specs.Marks.{Marked, marked_of}
-use Rattle.wdt_logfmt.specs.View.{NamedFile}
 use Rattle.wdt_sender_fsm.specs.Places.{tabulate}
-use Rattle.wdt_sender_fsm.specs.declared.peers.PeerKind.{PeerKind}
 use Rattle.wdt_sender_fsm.specs.declared.peers.PeerKind.TheVariants as peers
 use Rattle.wdt_log.specs.OpenLog.{OpenLog}
 use Rattle.wdt_writer.specs.declared.fail.WriteFail.{WriteFail}
 use Rattle.wdt_writer.specs.declared.fail.WriteFail.TheVariants as fails
 use Rattle.wdt_writer.specs.declared.parts.Part.{Part}
-use Rattle.wdt_writer.specs.Answers.{IsAnswered, IsNoRefusal, RanWrite, fault_at, of_fault}
+use Rattle.wdt_writer.specs.Answers.{IsAnswered, RanWrite, fault_at, of_fault}
 use Rattle.wdt_writer.specs.PlainWriter.{PlainWriter, blocks_of, known_by, known_with, make_by, part_of, run_begin}
-use Rattle.wdt_receiver_fsm.specs.declared.acts.RecvAct.{RecvAct}
-use Rattle.wdt_receiver_fsm.specs.Batched.{Continues, IsBatched}
+use Rattle.wdt_receiver_fsm.specs.Batched.{IsBatched}
 use Rattle.wdt_receiver_fsm.specs.Frames.{block_fault, kind_of}
-use Rattle.wdt_receiver_fsm.specs.Plan.{EndsIn, Plan, PlanRan, ends}
-use Rattle.wdt_receiver_fsm.specs.PlainReceiver.{PlainReceiver, begun_at, begun_blocks, marks_at, past_at}
+use Rattle.wdt_receiver_fsm.specs.Plan.{EndsIn, PlanRan, ends}
+use Rattle.wdt_receiver_fsm.specs.PlainReceiver.{PlainReceiver, begun_at, begun_blocks, marks_at}
 use Rattle.wdt_receiver_fsm.specs.ReceiverHistory.{begun_list, past_of}
 use Rattle.wdt_receiver_fsm.specs.Rows.{Block as BlockRead}
 use Rattle.wdt_receiver_fsm.specs.Turn.{Step, begins, block_plan, block_with, disk_fails, knows, makes_by}
-use Rattle.wdt_receiver_fsm.proofs.ForCallers.{ends_as, marks_follow, plan_as, plan_broken, plan_ends, plan_well}
+use Rattle.wdt_receiver_fsm.proofs.ForCallers.{ends_as, plan_as, plan_broken, plan_ends, plan_well}
 use Rattle.wdt_dock.specs.Beginning.{IsRefused, told_fault}
-use Rattle.wdt_dock.specs.Desk.{AreBooks, IsDesk, part_by, plain_of}
+use Rattle.wdt_dock.specs.Desk.{IsDesk, part_by, plain_of}
 use Rattle.wdt_dock.specs.End.{EndView, lane_in}
 use Rattle.wdt_dock.proofs.Finishing.{marks_are}
 
@@ -131,7 +128,7 @@ module _ (e : EndView) (log : OpenLog) (w : PlainWriter) (desk : IsDesk e log w)
   begun_are =
       ap (λ (n : ℕ). flat_map (begun_at (plain_of e log w)) (tabulate n (λ k. k))) (sym desk.lanes)
       ∙ blocks_are w.parts (begun_at (plain_of e log w)) (λ k. k) (λ k within.
-        list_of (past_of e.history k).begun (lane_in e k).left ∙ ap part_list (sym (desk.parts k (subst (λ (n : ℕ). k < n) desk.lanes within))))
+      list_of (past_of e.history k).begun (lane_in e k).left ∙ ap part_list (sym (desk.parts k (subst (λ (n : ℕ). k < n) desk.lanes within))))
 
   -- what stands in the way of a block, as the writer says it
   fault_is : IsBatched (plain_of e log w) → (n : ℕ) (h : Header) → block_fault w.known (marks_at (plain_of e log w)) (begun_blocks (plain_of e log w)) n h ≡ block_fault w.known (map marked_of w.files) (blocks_of w.parts) n h

@@ -1,6 +1,6 @@
 -- A block that is begun: what hangs together behind it.
-use Rattle.std.proofs.Common.{◌≡◌, ◌⊎◌, inl, inr, ℕ, zero, suc, ◌+◌, ◌-◌, ◌<◌, ◌≤◌, Bool, true, false, List, [], ◌∷◌, ◌++◌, length, Option, Some, None, refl, sym, ap, ◌∙◌, subst, arith}
-use Rattle.std.specs.Prelude.{if◌then◌else◌, is_some, slice_set, ◌==◌}
+use Rattle.std.proofs.Common.{◌≡◌, inl, inr, ℕ, zero, suc, ◌-◌, ◌<◌, Bool, true, false, List, [], ◌∷◌, ◌++◌, length, Option, Some, None, refl, sym, ap, ◌∙◌, subst, arith}
+use Rattle.std.specs.Prelude.{if◌then◌else◌, is_some, slice_set}
 use Rattle.std.proofs.lemmas.Bool.{and_from, and_parts, cases_eq, eq-eqb, ne_eqb}
 use Rattle.std.proofs.lemmas.List.{length-set}
 use Rattle.wdt_units.specs.declared.blocks.Block.{Block}
@@ -9,12 +9,10 @@ use Rattle.wdt_units.specs.declared.numbers.Lane.{Lane}
 use Rattle.wdt_units.specs.Headers.{FitsHeader}
 use Rattle.wdt_logfmt.specs.Batches.{has_known_file, have_known_files, is_known}
 use Rattle.wdt_logfmt.specs.Beginning.{KnownFile, block_of, is_new, known_at}
-use Rattle.wdt_logfmt.specs.View.{NamedFile}
 use Rattle.wdt_logfmt.proofs.ForCallers.{entries_kept, known_stays}
 use Rattle.wdt_log.specs.OpenLog.{OpenLog}
 use Rattle.wdt_writer.specs.declared.parts.Part.{Part}
 use Rattle.wdt_writer.specs.Answers.{fault_at}
-use Rattle.wdt_writer.specs.OnWay.{AreSound}
 use Rattle.wdt_writer.specs.PlainWriter.{PlainWriter, begins, file_told, known_by, known_with, lands as landed_in, part_of, whole}
 use Rattle.wdt_writer.proofs.ForCallers.{begun_now}
 use Rattle.wdt_receiver_fsm.specs.declared.events.RecvEvent.TheVariants as events
@@ -27,7 +25,7 @@ use Rattle.wdt_dock.specs.Desk.{AreBooks, IsDesk, IsWritten, part_by, plain_of}
 use Rattle.wdt_dock.specs.End.{EndView, lane_in}
 use Rattle.wdt_dock.proofs.Keeping.{LosesNone, lane_here, lane_other, loses_lane, stays_going}
 use Rattle.wdt_dock.proofs.LandedBlock.{books_landed}
-use Rattle.wdt_dock.proofs.Landings.{desk_landed}
+use Rattle.wdt_dock.proofs.Landings.{desk_landed, part_beside, part_here}
 use Rattle.wdt_dock.proofs.Parting.{Drops, drops_on}
 
 -- ---- the receiver
@@ -97,18 +95,6 @@ placed_loses r l b = (let t = lands (noted r (events.Begin l b ∷ [])) l b in l
 
 -- ---- parts
 
-part_put : (parts : List (Option Part)) (l : ℕ) (o : Option Part) → l < length parts → part_of (slice_set parts l o) l ≡ o
-part_put [] l o within = absurd (omega (arith, within))
-part_put (p ∷ parts) zero o within = refl
-part_put (p ∷ parts) (suc l) o within = part_put parts l o (omega (arith, within))
-
-part_beside : (parts : List (Option Part)) (l k : ℕ) (o : Option Part) → (k ≡ l → ⊥) → part_of (slice_set parts l o) k ≡ part_of parts k
-part_beside [] l k o ne = refl
-part_beside (p ∷ parts) zero zero o ne = absurd (ne refl)
-part_beside (p ∷ parts) zero (suc k) o ne = refl
-part_beside (p ∷ parts) (suc l) zero o ne = refl
-part_beside (p ∷ parts) (suc l) (suc k) o ne = part_beside parts l k o (λ same. ne (ap suc same))
-
 parts_long : (parts : List (Option Part)) (l : ℕ) (o : Option Part) → length (slice_set parts l o) ≡ length parts
 parts_long [] l o = refl
 parts_long (p ∷ parts) zero o = refl
@@ -153,7 +139,7 @@ module _ (e : EndView) (log : OpenLog) (w : PlainWriter) (l : Lane) (h : Header)
   }
 
   pub part_now : part_of w1.parts l.0 ≡ Some (whole b)
-  part_now = part_put w.parts l.0 (Some (whole b)) lane_there
+  part_now = part_here w.parts l.0 (Some (whole b)) lane_there
 
   -- its bytes are to come
   pub desk_begun : (f : EndView) → Begun (plain_of e log w) (plain_of f log w1) l.0 b → (lane_in f l.0).left ≡ b.length → IsDesk f log w1

@@ -1,5 +1,5 @@
 -- A file that is made for the first block of a path that isn't known, and a begun block, of which nothing is written.
-use Rattle.std.proofs.Common.{◌≡◌, ◌⊎◌, inl, inr, ℕ, zero, suc, ◌+◌, ◌-◌, ◌<◌, ◌≤◌, nat_le, nat_lt, Bool, true, false, ◌||◌, not, List, [], ◌∷◌, ◌++◌, length, Option, Some, None, refl, sym, ap, ◌∙◌, subst, arith}
+use Rattle.std.proofs.Common.{◌≡◌, inl, inr, ℕ, ◌+◌, ◌-◌, ◌<◌, ◌≤◌, nat_le, nat_lt, Bool, true, false, ◌||◌, not, List, [], ◌∷◌, ◌++◌, length, Option, Some, None, refl, sym, ap, ◌∙◌, subst, arith}
 use Rattle.std.specs.Prelude.{IfSome, is_some, option_map}
 use Rattle.std.specs.Str.{bytes_eq}
 use Rattle.std.proofs.lemmas.Bool.{and_parts, cases_eq, leb-true, ltb-true, or_cases}
@@ -14,7 +14,7 @@ use Rattle.wdt_ranges.specs.Spans.{has}
 use Rattle.wdt_depot.specs.Disk.{Disk, DiskFile, clean, made, seen_of}
 use Rattle.wdt_depot.specs.Moments.{IfTold, Told}
 use Rattle.wdt_depot.proofs.ForCallers.{with_file-other, with_file-same}
-use Rattle.wdt_logfmt.specs.Adding.{all_added, span_at}
+use Rattle.wdt_logfmt.specs.Adding.{span_at}
 use Rattle.wdt_logfmt.specs.Batches.{path_at, path_by}
 use Rattle.wdt_logfmt.specs.Beginning.{KnownFile, block_of, is_new, known_at, number_of, with_known}
 use Rattle.wdt_logfmt.specs.Landing.{IsAmong}
@@ -23,8 +23,8 @@ use Rattle.wdt_logfmt.specs.View.{NamedFile, is_view, names}
 use Rattle.wdt_logfmt.proofs.ForCallers.{number_new}
 use Rattle.wdt_good.specs.Good.{Each, GoodFiles, HasBytes}
 use Rattle.wdt_good.proofs.ForCallers.{batch_grows}
-use Rattle.wdt_files.specs.PlainFiles.{AreNamed, known_of}
-use Rattle.wdt_log.specs.OpenLog.{OpenLog, Rests, RestsIn}
+use Rattle.wdt_files.specs.PlainFiles.{known_of}
+use Rattle.wdt_log.specs.OpenLog.{OpenLog, Rests}
 use Rattle.wdt_writer.specs.Answers.{fault_at}
 use Rattle.wdt_writer.specs.Calls.{CanMake}
 use Rattle.wdt_writer.specs.PlainWriter.{PlainWriter, begins, begun_on, file_told, known_by, known_with, lands as landed_in, made_by, whole}
@@ -32,9 +32,8 @@ use Rattle.wdt_receiver_fsm.specs.declared.events.RecvEvent.TheVariants as event
 use Rattle.wdt_receiver_fsm.specs.Logging.{log_after}
 use Rattle.wdt_receiver_fsm.specs.PlainReceiver.{PlainReceiver, lane_at, past_at}
 use Rattle.wdt_receiver_fsm.specs.ReceiverHistory.{past_of}
-use Rattle.wdt_dock.specs.Booked.{KnownStand}
 use Rattle.wdt_dock.specs.Desk.{AreBooks, IsDesk, plain_of}
-use Rattle.wdt_dock.specs.DockGood.{DockGood, GoodReads, HasPart, HasPartOf, IfKnown, IsTrees, StandsWithin}
+use Rattle.wdt_dock.specs.DockGood.{GoodReads, HasPart, HasPartOf, IfKnown, IsTrees, StandsWithin}
 use Rattle.wdt_dock.specs.End.{EndView, lane_in}
 use Rattle.wdt_dock.proofs.Begun.{Begun, books_begun, known_on, noted_begun, part_now}
 use Rattle.wdt_dock.proofs.Goodness.{ReadsAs, begun_known, files_as, files_behind_are, part_as, stands_as}

@@ -1,7 +1,6 @@
 -- What stands behind a block that began, by the outcome of the writer's call.
 use Rattle.std.proofs.Common.{◌≡◌, ◌⊎◌, inl, inr, ℕ, zero, suc, ◌<◌, Bool, true, false, List, [], ◌∷◌, ◌++◌, length, Option, Some, None, Result, Ok, Err, refl, sym, ap, ◌∙◌, subst}
 use Rattle.std.specs.Prelude.{IfOk, IsErrOf, IsSome, OnErr}
-use Rattle.wdt_units.specs.Counts.{Rises}
 use Rattle.wdt_units.specs.Headers.{FitsHeader, IsHeaderOf}
 use Rattle.wdt_units.specs.Tree.{File}
 use Rattle.wdt_units.specs.declared.blocks.Block.{Block}
@@ -10,18 +9,16 @@ use Rattle.wdt_units.specs.declared.numbers.Lane.{Lane}
 use Rattle.wdt_depot.specs.Disk.{Disk}
 use Rattle.wdt_depot.specs.Moments.{IfTold, MayDo, OneStep, Told}
 use Rattle.wdt_depot.specs.State.{Counts, State}
-use Rattle.wdt_logfmt.specs.Beginning.{BeginFault, OverLimit, Overlap, SizeDiffers, block_of, is_new}
+use Rattle.wdt_logfmt.specs.Beginning.{BeginFault, OverLimit, Overlap, SizeDiffers, block_of}
 use Rattle.wdt_good.specs.Logged.{AllFit, GoodSince}
 use Rattle.wdt_good.proofs.ForCallers.{last_fits}
-use Rattle.wdt_sender_fsm.specs.Rules.{is_failure}
 use Rattle.wdt_sender_fsm.specs.declared.answers.EndAnswer.TheVariants as answers
 use Rattle.wdt_sender_fsm.specs.declared.peers.PeerKind.{PeerKind}
 use Rattle.wdt_sender_fsm.specs.declared.peers.PeerKind.TheVariants as peers
 use Rattle.wdt_log.specs.OpenLog.{OpenLog}
 use Rattle.wdt_writer.specs.declared.fail.WriteFail.{WriteFail}
 use Rattle.wdt_writer.specs.declared.fail.WriteFail.TheVariants as fails
-use Rattle.wdt_writer.specs.declared.parts.Part.{Part}
-use Rattle.wdt_writer.specs.Answers.{IsAnswered, IsSameOrSettled, fault_at, of_fault}
+use Rattle.wdt_writer.specs.Answers.{IsAnswered, IsSameOrSettled, fault_at}
 use Rattle.wdt_writer.specs.Calls.{CanMake, UsesDisk}
 use Rattle.wdt_writer.specs.PlainWriter.{PlainWriter, begins as begins_in, begun_on, known_with, run_begin}
 use Rattle.wdt_receiver_fsm.specs.declared.acts.RecvAct.{RecvAct}
@@ -34,11 +31,11 @@ use Rattle.wdt_dock.specs.Beginning.{IsRefused, books_with, starts, starts_by, t
 use Rattle.wdt_dock.specs.Desk.{AreBooks, IsAtRest, IsDesk, books_of, plain_of}
 use Rattle.wdt_dock.specs.DockGood.{DockGood, GoodReads}
 use Rattle.wdt_dock.specs.DockView.{HasLostDisk, LosesDisk}
-use Rattle.wdt_dock.specs.End.{Books, EndView, lane_in, plain_with}
-use Rattle.wdt_dock.proofs.Begun.{Begun, begun_from, books_begun, desk_begun, desk_placed, placed_drops, placed_loses, taken_begun, taken_left, taken_loses}
+use Rattle.wdt_dock.specs.End.{Books, EndView, plain_with}
+use Rattle.wdt_dock.proofs.Begun.{Begun, begun_from, desk_begun, desk_placed, placed_drops, placed_loses, taken_begun, taken_left, taken_loses}
 use Rattle.wdt_dock.proofs.Choices.{counts_lost, counts_none, desk_after}
 use Rattle.wdt_dock.proofs.Goodness.{files_behind_are, since_same, told_lost, told_stays}
-use Rattle.wdt_dock.proofs.Keeping.{LosesNone, Stays, loses_lane, not_lost, stays_failed, stays_going, stays_more, stays_noted, stays_same}
+use Rattle.wdt_dock.proofs.Keeping.{Stays, loses_lane, stays_failed, stays_going, stays_more, stays_noted, stays_same}
 use Rattle.wdt_dock.proofs.Made.{begun_reads, made_reads, may_make, placed_reads}
 use Rattle.wdt_dock.proofs.Parting.{Drops}
 use Rattle.wdt_dock.proofs.Waiting.{counts_same, same_behind}

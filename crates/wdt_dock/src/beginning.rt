@@ -1,25 +1,25 @@
 //! A block begins.
 ghost use Rattle.std.specs.Prelude.{◌≡◌, ◌<◌, ◌≤◌, false, [], List, length, IfOk, IsErrOf, IsSome, OnErr, OnOk, None};
+ghost use Rattle.wdt_units.specs.Headers.{FitsHeader, IsHeaderOf};
 ghost use Rattle.wdt_units.specs.Tree.{File};
+ghost use Rattle.wdt_units.specs.declared.limits.TheConstants.{MAX_BLOCKS};
 ghost use Rattle.wdt_depot.specs.Moments.{IfTold};
 ghost use Rattle.wdt_depot.specs.State.{Counts};
-ghost use Rattle.wdt_good.specs.Logged.{GoodSince};
-ghost use Rattle.wdt_sender_fsm.specs.Rules.{is_failure};
-ghost use Rattle.wdt_receiver_fsm.specs.Batched.{IsBatched};
-ghost use Rattle.wdt_units.specs.Headers.{FitsHeader, IsHeaderOf};
-ghost use Rattle.wdt_receiver_fsm.specs.ReceiverHistory.{past_of};
-ghost use Rattle.wdt_receiver_fsm.specs.Turn.{begins, block_plan};
-ghost use Rattle.wdt_units.specs.declared.limits.TheConstants.{MAX_BLOCKS};
 ghost use Rattle.wdt_logfmt.specs.Beginning.{block_of, is_new};
+ghost use Rattle.wdt_good.specs.Logged.{GoodSince};
 ghost use Rattle.wdt_writer.specs.Answers.{IsAnswered, IsSameOrSettled, fault_at};
 ghost use Rattle.wdt_writer.specs.Calls.{CanMake, UsesDisk};
 ghost use Rattle.wdt_writer.specs.PlainWriter.{begun_on, part_at, run_begin};
+ghost use Rattle.wdt_sender_fsm.specs.Rules.{is_failure};
+ghost use Rattle.wdt_receiver_fsm.specs.Batched.{IsBatched};
+ghost use Rattle.wdt_receiver_fsm.specs.ReceiverHistory.{past_of};
+ghost use Rattle.wdt_receiver_fsm.specs.Turn.{begins, block_plan};
 ghost use Rattle.wdt_dock.specs.Beginning.{IsRefused, books_with, starts};
-ghost use Rattle.wdt_dock.specs.End.{Books, plain_with};
-ghost use Rattle.wdt_dock.specs.declared.end.TheConstants.{STEP_ENTRIES};
 ghost use Rattle.wdt_dock.specs.Desk.{IsAtRest, IsDesk, plain_of};
 ghost use Rattle.wdt_dock.specs.DockGood.{DockGood};
 ghost use Rattle.wdt_dock.specs.DockView.{LosesDisk, TurnRan, Turns};
+ghost use Rattle.wdt_dock.specs.End.{Books, plain_with};
+ghost use Rattle.wdt_dock.specs.declared.end.TheConstants.{STEP_ENTRIES};
 
 use crate::end::RecvEnd;
 use wdt_depot::Depot;
@@ -59,8 +59,10 @@ pub fn begin<D: Depot>(
 
     // At each moment, inside each call too, each image is good for the tree and for what was logged
     // before; and behind it the end and its disk are good for the tree.
-    ensures images { (T : List File) → IfTold (λ t. DockGood T (plain_of end.old log.old writer.old) t.now) (D.state depot.old).told → GoodSince T [] (D.state depot.old).told (D.state depot.new).told }
-    ensures good { (T : List File) → IsHeaderOf T header.now → IfTold (λ t. DockGood T (plain_of end.old log.old writer.old) t.now) (D.state depot.old).told → IfTold (λ t. DockGood T (plain_of end.new log.new writer.new) t.now) (D.state depot.new).told }
+    ensures images { (T : List File) → IfTold (λ t. DockGood T (plain_of end.old log.old writer.old) t.now) (D.state depot.old).told →
+        GoodSince T [] (D.state depot.old).told (D.state depot.new).told }
+    ensures good { (T : List File) → IsHeaderOf T header.now → IfTold (λ t. DockGood T (plain_of end.old log.old writer.old) t.now) (D.state depot.old).told →
+        IfTold (λ t. DockGood T (plain_of end.new log.new writer.new) t.now) (D.state depot.new).told }
 
     ensures counts { Counts (LosesDisk (end.old).answer (end.new).answer) (D.state depot.old) (D.state depot.new) }
     ensures slips { (T : List File) → IfTold (λ t. DockGood T (plain_of end.old log.old writer.old) t.now → (D.state depot.new).slips ≡ (D.state depot.old).slips) (D.state depot.old).told }
@@ -129,8 +131,21 @@ fn refuse(end: &mut RecvEnd, lane: Lane, fail: WriteFail) -> Result<RecvAct, NoM
     match fail {
         WriteFail::Disk => Ok(end.fail_with(lane, EndAnswer::Disk)),
         WriteFail::NoMemory => Err(NoMemory),
-        WriteFail::SizeDiffers { size, stamp, told_size, told_stamp } => {
-            Ok(end.fault(lane, PeerKind::SizeDiffers { size, stamp, told_size, told_stamp }))
+        WriteFail::SizeDiffers {
+            size,
+            stamp,
+            told_size,
+            told_stamp,
+        } => {
+            Ok(end.fault(
+                lane,
+                PeerKind::SizeDiffers {
+                    size,
+                    stamp,
+                    told_size,
+                    told_stamp,
+                },
+            ))
         }
         WriteFail::Overlap { offset } => Ok(end.fault(lane, PeerKind::Overlap { offset })),
         WriteFail::OverLimit { count } => Ok(end.fault(lane, PeerKind::OverLimit { count })),

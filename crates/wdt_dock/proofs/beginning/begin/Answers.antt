@@ -1,4 +1,4 @@
-use Rattle.std.proofs.Common.{◌≡◌, ℕ, ◌+◌, Ok, refl, sym, ap, ◌∙◌, subst}
+use Rattle.std.proofs.Common.{ℕ, ◌+◌, Ok, refl, sym, ap, ◌∙◌, subst}
 use Rattle.wdt_units.specs.Counts.{Rises}
 use Rattle.wdt_depot.specs.Programs.{drive_of}
 use Rattle.wdt_sender_fsm.specs.declared.peers.PeerKind.TheVariants as peers
@@ -31,7 +31,6 @@ returns-then-landed-ge-MAX_BLOCKS-clause-turns g c =
     let w = c.args.writer.now in
     let l = c.args.lane in
     let n = c.landed-landed.result in
-    let s0 = g.D.Depot.state c.args.depot.now in
     let y : Step = (c.fault.result, plain_of f log w) in
     let said = ap (λ (m : ℕ). told_fault (plain_of e log w) l (peers.OverLimit (m + 1))) (sym c.from-count.ensures) ∙ c.fault.ensures (books_of log w) in
     limit_turns e log w c.requires.desk c.requires.batched l c.args.header.now n c.landed-landed.ensures c.if-landed-ge-MAX_BLOCKS.true y said _
@@ -59,8 +58,6 @@ returns-then-landed-ge-MAX_BLOCKS-clause-desk g c =
     let w = c.args.writer.now in
     let l = c.args.lane in
     let n = c.landed-landed.result in
-    let s0 = g.D.Depot.state c.args.depot.now in
-    let y : Step = (c.fault.result, plain_of f log w) in
     let said = ap (λ (m : ℕ). told_fault (plain_of e log w) l (peers.OverLimit (m + 1))) (sym c.from-count.ensures) ∙ c.fault.ensures (books_of log w) in
     desk_after e f log log w w c.requires.desk c.requires.desk.books refl (subst (λ (z : Step). Stays (plain_of e log w) z.1) said (fault_stays (plain_of e log w) l (peers.OverLimit (n + 1)) c.requires.lane))
 
@@ -74,7 +71,6 @@ returns-then-landed-ge-MAX_BLOCKS-clause-good g c =
     let l = c.args.lane in
     let n = c.landed-landed.result in
     let s0 = g.D.Depot.state c.args.depot.now in
-    let y : Step = (c.fault.result, plain_of f log w) in
     let said = ap (λ (m : ℕ). told_fault (plain_of e log w) l (peers.OverLimit (m + 1))) (sym c.from-count.ensures) ∙ c.fault.ensures (books_of log w) in
     λ T header good. told_stays T (plain_of e log w) (plain_of f log w) s0.told (subst (λ (z : Step). Stays (plain_of e log w) z.1) said (fault_stays (plain_of e log w) l (peers.OverLimit (n + 1)) c.requires.lane)) refl (same_behind e f log w c.requires.desk.books) (not_lost e.answer c.requires.sound) good
 
@@ -82,13 +78,11 @@ pub returns-then-landed-ge-MAX_BLOCKS-clause-counts :
     goal.returns-then-landed-ge-MAX_BLOCKS-clause-counts
 returns-then-landed-ge-MAX_BLOCKS-clause-counts g c =
     let e = c.args.end.now in
-    let f = c.fault.new.self in
     let log = c.args.log.now in
     let w = c.args.writer.now in
     let l = c.args.lane in
     let n = c.landed-landed.result in
     let s0 = g.D.Depot.state c.args.depot.now in
-    let y : Step = (c.fault.result, plain_of f log w) in
     let said = ap (λ (m : ℕ). told_fault (plain_of e log w) l (peers.OverLimit (m + 1))) (sym c.from-count.ensures) ∙ c.fault.ensures (books_of log w) in
     counts_same _ s0 (λ lost. subst (λ (z : Step). HasLostDisk z.1.answer → ⊥) said (fault_sound (plain_of e log w) l (peers.OverLimit (n + 1))) lost.1)
 
@@ -107,7 +101,6 @@ returns-in-Ok-clause-turns g c =
     let s0 = g.D.Depot.state c.args.depot.now in
     let s1 = g.D.Depot.state c.start.new.depot in
     let none = none_by (fault_at w h) c.in-Ok.block c.in-Ok.ensures.refused in
-    let uses = c.in-Ok.ensures.disk none in
     let sound = not_lost e.answer c.requires.sound in
     begun_turns e log w c.requires.desk c.requires.batched l h c.landed-landed.result c.landed-landed.ensures c.if-landed-ge-MAX_BLOCKS.false none (c.start_block.result, plain_of f log w2) (started_said e log w l h c.requires.desk sound s0 s1 c.requires.rest c.requires.lane c.requires.none c.requires.fits none f c.start_block.result c.in-Ok.block c.in-Ok.ensures.block c.start_block.ensures w2 c.in-Ok.ensures.started) _
 
@@ -141,7 +134,6 @@ returns-in-Ok-clause-desk g c =
     let s0 = g.D.Depot.state c.args.depot.now in
     let s1 = g.D.Depot.state c.start.new.depot in
     let none = none_by (fault_at w h) c.in-Ok.block c.in-Ok.ensures.refused in
-    let uses = c.in-Ok.ensures.disk none in
     let sound = not_lost e.answer c.requires.sound in
     started_desk e log w l h c.requires.desk sound s0 s1 c.requires.rest c.requires.lane c.requires.none c.requires.fits none f c.start_block.result c.in-Ok.block c.in-Ok.ensures.block c.start_block.ensures w2 c.in-Ok.ensures.started
 
@@ -152,7 +144,6 @@ returns-in-Ok-clause-rest g c =
     let f = c.start_block.new.end in
     let log = c.args.log.now in
     let w = c.args.writer.now in
-    let w2 = c.start.new.writer in
     let l = c.args.lane in
     let h = c.args.header.now in
     let s0 = g.D.Depot.state c.args.depot.now in
@@ -166,10 +157,8 @@ pub returns-in-Ok-clause-images :
     goal.returns-in-Ok-clause-images
 returns-in-Ok-clause-images g c =
     let e = c.args.end.now in
-    let f = c.start_block.new.end in
     let log = c.args.log.now in
     let w = c.args.writer.now in
-    let w2 = c.start.new.writer in
     let l = c.args.lane in
     let h = c.args.header.now in
     let s0 = g.D.Depot.state c.args.depot.now in
@@ -231,8 +220,8 @@ returns-in-Err-clause-turns g c =
     let by = c.in-Err.ensures in
     let sound = not_lost e.answer c.requires.sound in
     if_ok c.refuse.result _ _ (λ act refused.
-        subst (λ (t : PlainReceiver). EndsIn (Rises s0.faults s1.faults) (block_plan (plain_of e log w) l h) (act, t)) (sym (plain_kept e log w l h c.requires.desk sound s0 s1 c.requires.rest w2 by.unchanged f))
-        (refused_turns e log w c.requires.desk c.requires.batched l h c.landed-landed.result c.landed-landed.ensures c.if-landed-ge-MAX_BLOCKS.false fail by.refused (act, plain_of f log w) (refused (books_of log w)) (Rises s0.faults s1.faults) (λ is. (leaves_failed e log w l h c.requires.desk sound s0 s1 c.requires.rest w2 by.unchanged fail by.refused by.untouched by.disk).counts.rose (is_err fail fails.Disk is)) (λ known is. by.never known (is_err fail fails.Disk is)))) c.refuse.ensures.refused
+    subst (λ (t : PlainReceiver). EndsIn (Rises s0.faults s1.faults) (block_plan (plain_of e log w) l h) (act, t)) (sym (plain_kept e log w l h c.requires.desk sound s0 s1 c.requires.rest w2 by.unchanged f))
+    (refused_turns e log w c.requires.desk c.requires.batched l h c.landed-landed.result c.landed-landed.ensures c.if-landed-ge-MAX_BLOCKS.false fail by.refused (act, plain_of f log w) (refused (books_of log w)) (Rises s0.faults s1.faults) (λ is. (leaves_failed e log w l h c.requires.desk sound s0 s1 c.requires.rest w2 by.unchanged fail by.refused by.untouched by.disk).counts.rose (is_err fail fails.Disk is)) (λ known is. by.never known (is_err fail fails.Disk is)))) c.refuse.ensures.refused
 
 pub returns-in-Err-clause-exact :
     goal.returns-in-Err-clause-exact
@@ -250,8 +239,8 @@ returns-in-Err-clause-exact g c =
     let by = c.in-Err.ensures in
     let sound = not_lost e.answer c.requires.sound in
     if_ok c.refuse.result _ _ (λ act refused quiet.
-        subst (λ (t : PlainReceiver). PlanRan (block_plan (plain_of e log w) l h) (act, t) (drive_of s0) (drive_of s1)) (sym (plain_kept e log w l h c.requires.desk sound s0 s1 c.requires.rest w2 by.unchanged f))
-        (refused_ran e log w c.requires.desk c.requires.batched l h c.landed-landed.result c.landed-landed.ensures c.if-landed-ge-MAX_BLOCKS.false fail by.refused (act, plain_of f log w) (refused (books_of log w)) s0 s1 (λ is. new_by (is_new w.known h) (λ known. by.never known (is_err fail fails.Disk is))) by.untouched (λ none. (by.disk none).exact) quiet)) c.refuse.ensures.refused
+    subst (λ (t : PlainReceiver). PlanRan (block_plan (plain_of e log w) l h) (act, t) (drive_of s0) (drive_of s1)) (sym (plain_kept e log w l h c.requires.desk sound s0 s1 c.requires.rest w2 by.unchanged f))
+    (refused_ran e log w c.requires.desk c.requires.batched l h c.landed-landed.result c.landed-landed.ensures c.if-landed-ge-MAX_BLOCKS.false fail by.refused (act, plain_of f log w) (refused (books_of log w)) s0 s1 (λ is. new_by (is_new w.known h) (λ known. by.never known (is_err fail fails.Disk is))) by.untouched (λ none. (by.disk none).exact) quiet)) c.refuse.ensures.refused
 
 pub returns-in-Err-clause-desk :
     goal.returns-in-Err-clause-desk
@@ -291,7 +280,6 @@ pub returns-in-Err-clause-images :
     goal.returns-in-Err-clause-images
 returns-in-Err-clause-images g c =
     let e = c.args.end.now in
-    let f = c.refuse.new.end in
     let log = c.args.log.now in
     let w = c.args.writer.now in
     let w2 = c.start.new.writer in
