@@ -1,15 +1,20 @@
 -- The landing of a lane's block, call by call.
 use Rattle.std.proofs.Common.{◌≡◌, ◌⊎◌, inl, inr, ℕ, zero, suc, ◌+◌, ◌-◌, ◌<◌, ◌≤◌, Bool, true, false, List, [], ◌∷◌, ◌++◌, length, Option, Some, None, Result, Ok, Err, refl, sym, ap, ◌∙◌, subst, arith}
-use Rattle.std.specs.Prelude.{◌≢◌, IsSome, slice_set}
+use Rattle.std.specs.Prelude.{◌≢◌, IfSome, IsSome, slice_set}
 use Rattle.std.proofs.lemmas.Bool.{cases_eq}
 use Rattle.wdt_units.specs.declared.blocks.Block.{Block}
 use Rattle.wdt_units.specs.declared.numbers.Lane.{Lane}
+use Rattle.wdt_units.specs.Tree.{File}
+use Rattle.wdt_depot.specs.Moments.{IfTold}
 use Rattle.wdt_depot.specs.Programs.{Calls, Drive}
+use Rattle.wdt_depot.specs.State.{State}
 use Rattle.wdt_sender_fsm.specs.declared.answers.EndAnswer.TheVariants as answers
 use Rattle.wdt_logfmt.specs.Adding.{all_added}
 use Rattle.wdt_logfmt.specs.Batches.{entries_of, have_known_files}
+use Rattle.wdt_logfmt.specs.Beginning.{KnownFile}
 use Rattle.wdt_logfmt.specs.Spelling.{written_version}
-use Rattle.wdt_log.specs.OpenLog.{OpenLog}
+use Rattle.wdt_logfmt.specs.View.{Meaning}
+use Rattle.wdt_log.specs.OpenLog.{OpenLog, RestsIn}
 use Rattle.wdt_writer.specs.OnWay.{AreSound}
 use Rattle.wdt_writer.specs.declared.parts.Part.{Part}
 use Rattle.wdt_writer.specs.Answers.{IsSameOrSettled}
@@ -22,14 +27,16 @@ use Rattle.wdt_receiver_fsm.specs.Outcomes.{landed_by}
 use Rattle.wdt_receiver_fsm.specs.PlainReceiver.{PlainReceiver, failed, goes, is_batch_full, noted, with_lane}
 use Rattle.wdt_receiver_fsm.specs.ReceiverHistory.{past_of}
 use Rattle.wdt_receiver_fsm.specs.Turn.{Step, reads, tells_failure}
+use Rattle.wdt_dock.specs.Booked.{IsBooked}
 use Rattle.wdt_dock.specs.Desk.{AreBooks, IsDesk, IsWritten, books_of, part_by, part_in, plain_of}
 use Rattle.wdt_dock.specs.DockView.{HasLostDisk}
 use Rattle.wdt_dock.specs.End.{Books, EndView, lane_in, plain_with}
+use Rattle.wdt_dock.specs.Landing.{IsWholeOf}
 use Rattle.wdt_dock.proofs.Choices.{kept_plain, logged_stays, lost_answer}
 use Rattle.wdt_dock.proofs.Goodness.{files_behind_are}
 use Rattle.wdt_dock.proofs.Keeping.{LosesNone, Stays, loses_lane, stays_failed, stays_going, stays_more}
 use Rattle.wdt_dock.proofs.LandedBlock.{books_landed}
-use Rattle.wdt_dock.proofs.Landings.{landed_drops, landed_loses, part_beside, part_here}
+use Rattle.wdt_dock.proofs.Landings.{booked_now, landed_drops, landed_loses, part_beside, part_here}
 use Rattle.wdt_dock.proofs.Parting.{Drops, drops_on}
 use Rattle.wdt_dock.proofs.Taken.{some_of, sound_with}
 
@@ -44,6 +51,20 @@ logged_answer r here = go r.unlogged
     go : (bs : List Block) → HasLostDisk (all_logged_by r bs).answer → ⊥
     go [] = here
     go (b ∷ bs) = here
+
+-- the ties stand over another log that says the same
+pub desk_on : (e : EndView) (log log2 : OpenLog) (w : PlainWriter) → IsDesk e log w → log2.meaning ≡ log.meaning → log2.version ≡ written_version → IsDesk e log2 w
+desk_on e log log2 w desk is version = record {
+  books = record {
+    version = version;
+    sound = desk.books.sound;
+    known = desk.books.known;
+    pending = subst (λ (m : Meaning). w.pending ≡ entries_of w.known m.files w.unlogged) (sym is) desk.books.pending;
+    adds = subst (λ (m : Meaning). all_added written_version m.files w.pending ≡ Some w.files) (sym is) desk.books.adds;
+  };
+  lanes = desk.lanes;
+  parts = desk.parts;
+}
 
 module _ (e : EndView) (log : OpenLog) (w : PlainWriter) (l : Lane) (count : ℕ) (within : l.0 < length e.lanes) (desk : IsWritten e log w l.0 count) (some : (past_of e.history l.0).begun ≢ None) where
   abbrev pub block : Block
@@ -99,11 +120,47 @@ module _ (e : EndView) (log : OpenLog) (w : PlainWriter) (l : Lane) (count : ℕ
   back w1 w2 (inl is) gives short = given_back w2 (gives ∙ ap (λ (x : PlainWriter). gives_back x l.0 count) is) short
   back w1 w2 (inr is) gives short = given_back w2 (gives ∙ ap (λ (x : PlainWriter). gives_back x l.0 count) is) short
 
+  -- the receiver is as it was
+  pub same_plain : (log2 : OpenLog) (w2 : PlainWriter) → log2.meaning ≡ log.meaning → (w1 : PlainWriter) → IsSameOrSettled w w1 → w2 ≡ gives_back w1 l.0 count → plain_of e log2 w2 ≡ before
+  same_plain log2 w2 meaning w1 so gives = kept_books log2 w2 meaning (ap (λ (x : PlainWriter). x.known) gives ∙ known so) (ap (λ (x : PlainWriter). x.unlogged) gives ∙ unlogged so)
+    where
+      known : {w1 : PlainWriter} → IsSameOrSettled w w1 → w1.known ≡ w.known
+      known (inl is) = ap (λ (x : PlainWriter). x.known) is
+      known (inr is) = ap (λ (x : PlainWriter). x.known) is
+
+      unlogged : {w1 : PlainWriter} → IsSameOrSettled w w1 → w1.unlogged ≡ w.unlogged
+      unlogged (inl is) = ap (λ (x : PlainWriter). x.unlogged) is
+      unlogged (inr is) = ap (λ (x : PlainWriter). x.unlogged) is
+
+      kept_books : (log2 : OpenLog) (w2 : PlainWriter) → log2.meaning ≡ log.meaning → w2.known ≡ w.known → w2.unlogged ≡ w.unlogged → plain_of e log2 w2 ≡ before
+      kept_books log2 w2 meaning known_same unlogged_same =
+          ap (λ (m : Meaning). plain_with e (record { known = w2.known; log = m; unlogged = w2.unlogged })) meaning
+          ∙ ap (λ (ks : List (Option KnownFile)). plain_with e (record { known = ks; log = log.meaning; unlogged = w2.unlogged })) known_same
+          ∙ ap (λ (bs : List Block). plain_with e (record { known = w.known; log = log.meaning; unlogged = bs })) unlogged_same
+
+  pub short_is : IfSome (past_of e.history l.0).begun (λ b. count ≤ b.length) → count ≤ block.length
+  short_is short = subst (λ (o : Option Block). IfSome o (λ b. count ≤ b.length)) begun short
+
+  may_give : (w1 : PlainWriter) → w1.parts ≡ w.parts → count ≤ block.length → (begun_at w1 l.0).left + count ≤ (begun_at w1 l.0).block.length
+  may_give w1 same short = subst (λ (q : Part). q.left + count ≤ q.block.length) (sym (ap (λ (ps : List (Option Part)). part_or (part_of ps l.0)) same ∙ begun_is)) (omega (arith, short))
+
+  pub gives : (w1 : PlainWriter) → IsSameOrSettled w w1 → count ≤ block.length → (begun_at w1 l.0).left + count ≤ (begun_at w1 l.0).block.length
+  gives w1 (inl is) short = may_give w1 (ap (λ (x : PlainWriter). x.parts) is) short
+  gives w1 (inr is) short = may_give w1 (ap (λ (x : PlainWriter). x.parts) is) short
+
   -- ---- landed
 
   module _ (w1 : PlainWriter) (lands_is : w1 ≡ landed_in w l.0 (begun_at w l.0).block) where
     pub writer_is : w1 ≡ landed_in w l.0 block
     writer_is = lands_is ∙ ap (λ (q : Part). landed_in w l.0 q.block) begun_is
+
+    -- a landing that is taken back
+    pub back_is : (w2 w3 : PlainWriter) → w2 ≡ w1 → w3 ≡ taken_back w2 → IsSameOrSettled w w3
+    back_is w2 w3 kept back = inr (back ∙ ap taken_back (kept ∙ writer_is))
+
+    -- it may be logged
+    pub booked_so : (T : List File) (s : State) → (HasLostDisk e.answer → ⊥) → RestsIn log s → IfTold (λ t. IsWholeOf T before l.0 t.now) s.told → IfTold (λ t. IsBooked T log w1 t.now) s.told
+    booked_so T s sound rests whole = subst (λ (x : PlainWriter). IfTold (λ t. IsBooked T log x t.now) s.told) (sym writer_is) (booked_now e log w l desk.books part there begun T s sound rests whole)
 
     pub books_now : AreBooks log w1
     books_now = subst (λ (x : PlainWriter). AreBooks log x) (sym writer_is) (books_landed log w desk.books l.0 part there)
@@ -126,6 +183,9 @@ module _ (e : EndView) (log : OpenLog) (w : PlainWriter) (l : Lane) (count : ℕ
     module _ (e1 : EndView) (stood : (books : Books) → noted (with_lane (plain_with e books) l.0 record (lane_in e l.0) { left = 0 }) (events.Land l ∷ []) ≡ plain_with e1 books) where
       pub landed_is : plain_of e1 log w1 ≡ landed
       landed_is = sym (stood (books_of log w1)) ∙ ap (λ (x : PlainWriter). noted (with_lane (plain_with e (books_of log x)) l.0 record (lane_in e l.0) { left = 0 }) (events.Land l ∷ [])) writer_is
+
+      pub calls_are : (ok : Bool) (a c : Option Drive) → Calls (flush_calls (plain_of e1 log w1)) ok a c → Calls (flush_calls landed) ok a c
+      calls_are ok a c called = subst (λ (r : PlainReceiver). Calls (flush_calls r) ok a c) landed_is called
 
       module _ (e2 : EndView) (act : RecvAct) (said : (books : Books) → reads (goes (plain_with e1 books) l.0 states.ReadNextCmd) ≡ (act, plain_with e2 books)) where
         pub reads_is : reads (goes landed l.0 states.ReadNextCmd) ≡ (act, plain_of e2 log w1)

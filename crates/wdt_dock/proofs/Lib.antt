@@ -10,15 +10,16 @@ mod Goodness
 mod Keeping
 mod LandRow
 mod LandedBlock
+mod LandedLogged
 mod Landings
 mod Lengths
-mod LandedLogged
 mod LoggedAll
 mod Made
 mod Opened
 mod Parting
 mod Results
 mod Starts
+mod TakeRow
 mod Taken
 mod Telling
 mod Waiting

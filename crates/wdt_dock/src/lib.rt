@@ -28,6 +28,7 @@ mod logging;
 mod opening;
 mod rows;
 mod serving;
+mod taking;
 mod wanting;
 
 pub use beginning::begin;
@@ -39,3 +40,4 @@ pub use flushing::FlushFail;
 pub use idling::Idling;
 pub use logging::log_all;
 pub use opening::DockFail;
+pub use taking::take;
