@@ -15,10 +15,14 @@ mod Landings
 mod Lengths
 mod LoggedAll
 mod Made
+mod MayServing
 mod Opened
 mod Parting
+mod Quiet
 mod Results
+mod Served
 mod Starts
+mod Stepped
 mod TakeRow
 mod Taken
 mod Telling

@@ -10,3 +10,4 @@ pub mod Idling
 pub mod Landed
 pub mod Serving
 pub mod Landing
+pub mod Turning

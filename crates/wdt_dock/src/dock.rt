@@ -19,6 +19,8 @@ ghost use Rattle.wdt_dock.specs.DockGood.{DockGood};
 ghost use Rattle.wdt_dock.specs.DockView.{HasLostDisk};
 ghost use Rattle.wdt_dock.specs.Landed.{AllLogged, EachLogged};
 
+mod stepping;
+
 use crate::end::RecvEnd;
 use crate::flushing::{FlushFail, flush};
 use crate::opening::{DockFail, of_log, parts_of};

@@ -13,7 +13,8 @@
 //! behind it, and that the end and its disk stay good for the tree.
 //!
 //! `Dock` is all of these, over a depot of its own (`specs/Dock.antt`): it opens a log and begins an end
-//! behind what the log says, logs what landed when it is asked to, and hands its depot back.
+//! behind what the log says, makes the steps of its lanes (`src/turning.rt` says which row is done), logs what
+//! landed when it is asked to, and hands its depot back.
 #![tactic(auto)]
 
 mod answers;
@@ -29,6 +30,7 @@ mod opening;
 mod rows;
 mod serving;
 mod taking;
+mod turning;
 mod wanting;
 
 pub use beginning::begin;

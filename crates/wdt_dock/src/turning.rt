@@ -1,0 +1,127 @@
+//! A step of a lane, by its row.
+ghost use Rattle.std.specs.Prelude.{◌≡◌, ◌<◌, [], List, false, length, true, OnErr};
+ghost use Rattle.wdt_units.specs.Tree.{File};
+ghost use Rattle.wdt_depot.specs.Moments.{IfTold};
+ghost use Rattle.wdt_depot.specs.State.{Counts};
+ghost use Rattle.wdt_good.specs.Logged.{GoodSince};
+ghost use Rattle.wdt_sender_fsm.specs.Rules.{is_failure};
+ghost use Rattle.wdt_receiver_fsm.specs.Batched.{IsBatched};
+ghost use Rattle.wdt_receiver_fsm.specs.Receiver.{IsReceiver};
+ghost use Rattle.wdt_receiver_fsm.specs.ReceiverHistory.{past_of};
+ghost use Rattle.wdt_receiver_fsm.specs.Rows.{shown};
+ghost use Rattle.wdt_receiver_fsm.specs.Turn.{Given, recv_plan, turn_row};
+ghost use Rattle.wdt_receiver_fsm.specs.Writes.{FitsPut};
+ghost use Rattle.wdt_dock.specs.Desk.{IsAtRest, IsDesk, plain_of};
+ghost use Rattle.wdt_dock.specs.DockGood.{DockGood, PutOf};
+ghost use Rattle.wdt_dock.specs.DockView.{LosesDisk, TurnRan, Turns};
+ghost use Rattle.wdt_dock.specs.Turning.{IsTreesRow, MayGoOn};
+
+use crate::beginning::begin;
+use crate::choosing::choose;
+use crate::dropping::lose_connection;
+use crate::end::RecvEnd;
+use crate::idling::Idling;
+use std::alloc::Global;
+use wdt_depot::Depot;
+use wdt_log::Log;
+use wdt_receiver_fsm::{RecvAct, RecvIn, RecvRow, row, steps_follow_their_rows};
+use wdt_units::{Lane, NoMemory};
+use wdt_writer::Writer;
+
+/// A step of a lane with an input: the act and the end behind it are the definition's, whatever the disk does.
+///
+/// After `NoMemory` the end is as it was; calls on the disk that were made may stand.
+pub fn turn<D: Depot>(
+    alloc: Global,
+    depot: &mut D,
+    log: &mut Log,
+    writer: &mut Writer,
+    end: &mut RecvEnd,
+    lane: Lane,
+    input: &RecvIn,
+) -> Result<RecvAct, NoMemory>
+    requires lane { lane.0 < length (end.old).lanes }
+    requires desk { IsDesk end.old log.old writer.old }
+    requires rest { IsAtRest end.old log.old (D.state depot.old) }
+    requires receiver { IsReceiver (plain_of end.old log.old writer.old) }
+    requires batched { IsBatched (plain_of end.old log.old writer.old) }
+    requires fits { FitsPut (Given input.now) }
+
+    ensures turns { Turns (recv_plan (plain_of end.old log.old writer.old) lane input.now) result (plain_of end.new log.new writer.new) (D.state depot.old) (D.state depot.new) }
+    ensures exact { TurnRan (recv_plan (plain_of end.old log.old writer.old) lane input.now) result (plain_of end.new log.new writer.new) (D.state depot.old) (D.state depot.new) }
+    ensures memory { OnErr result (plain_of end.new log.new writer.new ≡ plain_of end.old log.old writer.old) }
+    ensures desk { IsDesk end.new log.new writer.new }
+    ensures rest { IsAtRest end.new log.new (D.state depot.new) }
+
+    // At each moment, inside each call too, each image is good for the tree and for what was logged
+    // before; and behind it the end and its disk are good for the tree.
+    ensures images { (T : List File) → IfTold (λ t. DockGood T (plain_of end.old log.old writer.old) t.now) (D.state depot.old).told → GoodSince T [] (D.state depot.old).told (D.state depot.new).told }
+    ensures good { (T : List File) → PutOf T (plain_of end.old log.old writer.old) lane (Given input.now) → IfTold (λ t. DockGood T (plain_of end.old log.old writer.old) t.now) (D.state depot.old).told → IfTold (λ t. DockGood T (plain_of end.new log.new writer.new) t.now) (D.state depot.new).told }
+
+    ensures untouched { is_failure (end.old).answer ≡ true → D.state depot.new ≡ D.state depot.old }
+    ensures counts { Counts (LosesDisk (end.old).answer (end.new).answer) (D.state depot.old) (D.state depot.new) }
+    ensures slips { (T : List File) → IfTold (λ t. DockGood T (plain_of end.old log.old writer.old) t.now → (D.state depot.new).slips ≡ (D.state depot.old).slips) (D.state depot.old).told }
+{
+    // The law: a step is that of its row.
+    steps_follow_their_rows();
+    let row = row(end.lane(lane), input);
+    match row {
+        RecvRow::Over => Ok(RecvAct::Stop),
+        RecvRow::Starved { mute } => Ok(end.starved(lane, mute)),
+        row => {
+            if end.has_failed() {
+                return Ok(end.give_up(lane, row.is_mute()));
+            }
+            serve(alloc, depot, log, writer, end, lane, row)
+        }
+    }
+}
+
+// A row of a sound end.
+fn serve<D: Depot>(
+    alloc: Global,
+    depot: &mut D,
+    log: &mut Log,
+    writer: &mut Writer,
+    end: &mut RecvEnd,
+    lane: Lane,
+    row: RecvRow<'_>,
+) -> Result<RecvAct, NoMemory>
+    requires lane { lane.0 < length (end.old).lanes }
+    requires desk { IsDesk end.old log.old writer.old }
+    requires rest { IsAtRest end.old log.old (D.state depot.old) }
+    requires batched { IsBatched (plain_of end.old log.old writer.old) }
+    requires sound { is_failure (end.old).answer ≡ false }
+    requires may { MayGoOn (shown row) (past_of (end.old).history lane.0) }
+
+    ensures turns { Turns (turn_row (plain_of end.old log.old writer.old) lane (shown row.entry)) result (plain_of end.new log.new writer.new) (D.state depot.old) (D.state depot.new) }
+    ensures exact { TurnRan (turn_row (plain_of end.old log.old writer.old) lane (shown row.entry)) result (plain_of end.new log.new writer.new) (D.state depot.old) (D.state depot.new) }
+    ensures memory { OnErr result (plain_of end.new log.new writer.new ≡ plain_of end.old log.old writer.old) }
+    ensures desk { IsDesk end.new log.new writer.new }
+    ensures rest { IsAtRest end.new log.new (D.state depot.new) }
+    ensures images { (T : List File) → IfTold (λ t. DockGood T (plain_of end.old log.old writer.old) t.now) (D.state depot.old).told → GoodSince T [] (D.state depot.old).told (D.state depot.new).told }
+    ensures good { (T : List File) → IsTreesRow T (shown row.entry) → IfTold (λ t. DockGood T (plain_of end.old log.old writer.old) t.now) (D.state depot.old).told → IfTold (λ t. DockGood T (plain_of end.new log.new writer.new) t.now) (D.state depot.new).told }
+    ensures counts { Counts (LosesDisk (end.old).answer (end.new).answer) (D.state depot.old) (D.state depot.new) }
+    ensures slips { (T : List File) → IfTold (λ t. DockGood T (plain_of end.old log.old writer.old) t.now → (D.state depot.new).slips ≡ (D.state depot.old).slips) (D.state depot.old).told }
+{
+    match row {
+        RecvRow::Dropped => lose_connection(writer, end, lane),
+        RecvRow::Block(header) => {
+            end.prepare()?;
+            begin(depot, log, writer, end, lane, header)
+        }
+        RecvRow::Done => {
+            end.prepare()?;
+            choose(alloc, depot, log, writer, end, lane, Idling::Done)
+        }
+        RecvRow::WaitWritten => {
+            end.prepare()?;
+            choose(alloc, depot, log, writer, end, lane, Idling::WaitWritten)
+        }
+        RecvRow::Woken => {
+            end.prepare()?;
+            choose(alloc, depot, log, writer, end, lane, Idling::Woken)
+        }
+        row => end.served(alloc, lane, row),
+    }
+}
