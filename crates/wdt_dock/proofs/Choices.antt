@@ -1,7 +1,6 @@
 -- What stands behind a row, from the receiver that its plan says.
-use Rattle.std.proofs.Common.{◌≡◌, ◌⊎◌, inl, inr, ℕ, ◌<◌, Bool, true, false, List, [], ◌∷◌, length, Option, Some, None, Result, Ok, Err, refl, sym, ap, ◌∙◌, subst, arith}
-use Rattle.std.specs.Prelude.{IsErrOf, IsSome}
-use Rattle.wdt_units.specs.Counts.{Rises}
+use Rattle.std.proofs.Common.{◌≡◌, ℕ, ◌<◌, List, [], ◌∷◌, length, Option, Ok, Err, refl, sym, ap, ◌∙◌, subst}
+use Rattle.std.specs.Prelude.{IsErrOf}
 use Rattle.wdt_units.specs.declared.blocks.Block.{Block}
 use Rattle.wdt_depot.specs.State.{Counts, State}
 use Rattle.wdt_logfmt.specs.View.{Meaning}
@@ -11,7 +10,7 @@ use Rattle.wdt_log.specs.declared.fail.LogFail.{LogFail}
 use Rattle.wdt_log.specs.declared.fail.LogFail.TheVariants.{Disk as DiskFail, NoMemory}
 use Rattle.wdt_log.specs.OpenLog.{OpenLog}
 use Rattle.wdt_writer.specs.declared.parts.Part.{Part}
-use Rattle.wdt_writer.specs.PlainWriter.{PlainWriter, part_at, part_of}
+use Rattle.wdt_writer.specs.PlainWriter.{PlainWriter, part_of}
 use Rattle.wdt_receiver_fsm.specs.Logging.{all_logged, all_logged_by}
 use Rattle.wdt_receiver_fsm.specs.PlainReceiver.{PlainReceiver}
 use Rattle.wdt_receiver_fsm.specs.ReceiverHistory.{past_of}
@@ -19,8 +18,8 @@ use Rattle.wdt_receiver_fsm.specs.Turn.{Step, disk_fails, finishes_with}
 use Rattle.wdt_receiver_fsm.specs.declared.acts.RecvAct.{RecvAct}
 use Rattle.wdt_sender_fsm.specs.declared.peers.PeerKind.{PeerKind}
 use Rattle.wdt_units.specs.declared.numbers.Lane.{Lane}
-use Rattle.wdt_dock.specs.Desk.{AreBooks, IsDesk, part_by, part_in, plain_of}
-use Rattle.wdt_dock.specs.DockView.{HasLostDisk, LosesDisk}
+use Rattle.wdt_dock.specs.Desk.{AreBooks, IsDesk, part_by, plain_of}
+use Rattle.wdt_dock.specs.DockView.{HasLostDisk}
 use Rattle.wdt_dock.specs.End.{EndView, lane_in}
 use Rattle.wdt_dock.specs.declared.idling.Idling.{Idling}
 use Rattle.wdt_dock.specs.Idling.{idled, row_of_way}

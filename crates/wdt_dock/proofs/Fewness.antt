@@ -1,7 +1,6 @@
 -- A step leaves room for what isn't logged in a batch, unless the disk fails.
-use Rattle.std.proofs.Common.{◌≡◌, ◌⊎◌, inl, inr, ℕ, zero, suc, ◌<◌, ◌≤◌, Bool, true, false, List, [], ◌∷◌, length, Option, Some, None, refl, sym, ap, ◌∙◌, subst, arith}
+use Rattle.std.proofs.Common.{◌≡◌, ◌⊎◌, inl, inr, ℕ, zero, suc, ◌≤◌, Bool, true, false, List, [], ◌∷◌, length, refl, sym, ap, subst, arith}
 use Rattle.std.specs.Prelude.{filter, if◌then◌else◌, is_some}
-use Rattle.std.proofs.lemmas.Bool.{both_ways}
 use Rattle.wdt_units.specs.declared.limits.TheConstants.{MAX_BLOCKS}
 use Rattle.wdt_units.specs.declared.blocks.Block.{Block}
 use Rattle.wdt_units.specs.declared.numbers.Lane.{Lane}
@@ -14,9 +13,9 @@ use Rattle.wdt_receiver_fsm.specs.declared.states.RecvLane.{RecvLane}
 use Rattle.wdt_receiver_fsm.specs.declared.states.RecvState.TheVariants as states
 use Rattle.wdt_receiver_fsm.specs.Batched.{IsBatched, is_filled}
 use Rattle.wdt_receiver_fsm.specs.Causes.{Follows}
-use Rattle.wdt_receiver_fsm.specs.Logging.{all_logged, all_logged_by}
+use Rattle.wdt_receiver_fsm.specs.Logging.{all_logged_by}
 use Rattle.wdt_receiver_fsm.specs.Outcomes.{Acknowledged, AtFirst, Begins, Begun, ByChunks, ByDone, ByGreeting, ByLanding, ByLogging, ByLoss, ByMarks, ByNoLink, ByWait, ByWaking, Comes, ComesOf, Concluded, Concludes, Ended, Failed, Fails, GivenUp, Greeted, Idles, IsFinished, Left, Linked, Listed, Listened, Listens, OfFinish, OfKnown, OfLog, OfMake, OfMemory, OfNew, OfPeer, OfSender, OfShort, OfWrite, Outcome, ReadOn, ReadsOn, landed_by, Rested, Sized, Taken, Told, Waited, Warned, WasFinished, came_to}
-use Rattle.wdt_receiver_fsm.specs.PlainReceiver.{PlainReceiver, failed, goes, has_finish, lane_at, noted, with_lane}
+use Rattle.wdt_receiver_fsm.specs.PlainReceiver.{PlainReceiver, failed, has_finish, lane_at, noted, with_lane}
 use Rattle.wdt_receiver_fsm.specs.ReceiverHistory.{end_of}
 use Rattle.wdt_receiver_fsm.specs.Sets.{set_of}
 use Rattle.wdt_receiver_fsm.specs.Turn.{Put, Step, begins_by, given_up, greets_by, lands, leaves, meets, met_by, next_take, sized_by, tells_failure, waits_by}

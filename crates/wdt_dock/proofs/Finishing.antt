@@ -1,34 +1,30 @@
 -- The finish, behind the flush of what landed.
-use Rattle.std.proofs.Common.{◌≡◌, ◌⊎◌, inl, inr, ℕ, suc, ◌<◌, Bool, true, false, List, [], ◌∷◌, ◌++◌, length, map, Option, Some, None, refl, sym, ap, ◌∙◌, subst}
-use Rattle.std.specs.Prelude.{option_map}
+use Rattle.std.proofs.Common.{◌≡◌, ℕ, suc, ◌<◌, Bool, true, false, List, [], ◌∷◌, length, map, Option, Some, None, refl, sym, ap, ◌∙◌, subst}
 use Rattle.wdt_units.specs.declared.blocks.Block.{Block}
 use Rattle.wdt_units.specs.declared.numbers.Lane.{Lane}
 use Rattle.wdt_depot.specs.Programs.{Calls, Drive}
 use Rattle.wdt_logfmt.specs.Adding.{all_added}
-use Rattle.wdt_logfmt.specs.Batches.{entries_of}
 use Rattle.wdt_logfmt.specs.Marks.{Marked, bytes_in, files_in, marked_of, marks_of}
 use Rattle.wdt_logfmt.specs.Spelling.{written_version}
-use Rattle.wdt_logfmt.specs.View.{Meaning, NamedFile}
-use Rattle.wdt_sender_fsm.specs.declared.answers.EndAnswer.{EndAnswer}
+use Rattle.wdt_logfmt.specs.View.{NamedFile}
 use Rattle.wdt_sender_fsm.specs.declared.answers.EndAnswer.TheVariants as answers
 use Rattle.wdt_sender_fsm.specs.declared.peers.PeerKind.{PeerKind}
 use Rattle.wdt_receiver_fsm.specs.declared.events.RecvEvent.{RecvEvent}
 use Rattle.wdt_receiver_fsm.specs.declared.events.RecvEvent.TheVariants as events
 use Rattle.wdt_receiver_fsm.specs.declared.states.RecvState.TheVariants as states
-use Rattle.wdt_receiver_fsm.specs.Batched.{Continues, IsBatched}
+use Rattle.wdt_receiver_fsm.specs.Batched.{IsBatched}
 use Rattle.wdt_receiver_fsm.specs.Frames.{short_fault}
 use Rattle.wdt_receiver_fsm.specs.Logging.{all_logged, all_logged_by, flush_calls, flush_calls_by, log_after}
 use Rattle.wdt_receiver_fsm.specs.Plan.{EndsIn, PlanRan}
-use Rattle.wdt_receiver_fsm.specs.PlainReceiver.{PlainReceiver, failed, goes, lane_at, marks_at, noted, with_lane}
+use Rattle.wdt_receiver_fsm.specs.PlainReceiver.{PlainReceiver, failed, goes, lane_at, marks_at, noted}
 use Rattle.wdt_receiver_fsm.specs.ReceiverHistory.{EndPast, end_of, end_of-append, landed_of}
-use Rattle.wdt_receiver_fsm.specs.Turn.{Step, disk_fails, finish_plan, finishes, finishes_with, idles_lane, says_done, short_fault_at, tells_by, tells_failure, waited_lane, waits_by}
+use Rattle.wdt_receiver_fsm.specs.Turn.{Step, disk_fails, finish_plan, finishes, finishes_with, idles_lane, short_fault_at}
 use Rattle.wdt_receiver_fsm.proofs.ForCallers.{ends_broken, ends_well, flush_broken, flush_well, landed_same, marks_follow, plan_ends}
 use Rattle.wdt_log.specs.OpenLog.{OpenLog}
 use Rattle.wdt_writer.specs.PlainWriter.{PlainWriter, marks}
 use Rattle.wdt_dock.specs.declared.idling.Idling.{Idling}
 use Rattle.wdt_dock.specs.declared.idling.Idling.TheVariants as ways
 use Rattle.wdt_dock.specs.Desk.{AreBooks, plain_of}
-use Rattle.wdt_dock.specs.DockView.{HasLostDisk}
 use Rattle.wdt_dock.specs.End.{EndView}
 use Rattle.wdt_dock.specs.Idling.{idled, idled_history, row_of_way}
 use Rattle.wdt_dock.proofs.Goodness.{files_behind_are}

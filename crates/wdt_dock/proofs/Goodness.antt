@@ -1,26 +1,26 @@
 -- An end and its disk stay good for the tree.
-use Rattle.std.proofs.Common.{◌≡◌, ◌⊎◌, inl, inr, ℕ, zero, suc, ◌+◌, ◌-◌, ◌<◌, ◌≤◌, Bool, true, false, List, [], ◌∷◌, length, Option, Some, None, refl, sym, ap, ◌∙◌, subst, arith}
-use Rattle.std.specs.Prelude.{IfSome, IsTrue, option_map}
+use Rattle.std.proofs.Common.{◌≡◌, inl, inr, ℕ, suc, ◌-◌, ◌<◌, ◌≤◌, true, false, List, [], ◌∷◌, length, Option, Some, None, refl, sym, ap, ◌∙◌, subst}
+use Rattle.std.specs.Prelude.{IfSome, option_map}
 use Rattle.std.specs.Str.{bytes_eq}
 use Rattle.std.proofs.lemmas.Bool.{or_parts}
 use Rattle.wdt_units.specs.Path.{is_reserved}
-use Rattle.wdt_units.specs.Tree.{File, file_of}
+use Rattle.wdt_units.specs.Tree.{File}
 use Rattle.wdt_units.specs.declared.blocks.Block.{Block}
 use Rattle.wdt_depot.specs.Disk.{Disk, DiskFile, seen_of}
 use Rattle.wdt_depot.specs.Moments.{IfTold, Told}
 use Rattle.wdt_logfmt.specs.Adding.{all_added, span_at}
-use Rattle.wdt_logfmt.specs.Batches.{entries_of, files_or, path_at, path_by}
+use Rattle.wdt_logfmt.specs.Batches.{files_or, path_at, path_by}
 use Rattle.wdt_logfmt.specs.Beginning.{KnownFile, known_at}
 use Rattle.wdt_logfmt.specs.Landing.{IsAmong}
 use Rattle.wdt_logfmt.specs.Spelling.{written_version}
 use Rattle.wdt_logfmt.specs.View.{NamedFile, is_view}
 use Rattle.wdt_logfmt.specs.declared.entry.LogEntry.{LogEntry}
 use Rattle.wdt_good.specs.Good.{Each, GoodFile, GoodFiles, HasBytes, log_path, new_log_path}
-use Rattle.wdt_good.specs.Logged.{AllFit, GoodSince}
+use Rattle.wdt_good.specs.Logged.{GoodSince}
 use Rattle.wdt_good.proofs.ForCallers.{IsOther, each_in, last_fits, view_others}
 use Rattle.wdt_depot.proofs.ForCallers.{since_now}
 use Rattle.wdt_good.specs.Logged.{AllGood}
-use Rattle.wdt_files.specs.PlainFiles.{AreFiles, AreNamed}
+use Rattle.wdt_files.specs.PlainFiles.{AreFiles}
 use Rattle.wdt_log.specs.Flushing.{KeepsReads, ReadsStand}
 use Rattle.wdt_log.specs.OpenLog.{OpenLog, Rests, RestsIn}
 use Rattle.wdt_depot.specs.State.{State}

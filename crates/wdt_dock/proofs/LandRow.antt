@@ -1,6 +1,6 @@
 -- The landing of a lane's block, call by call.
-use Rattle.std.proofs.Common.{◌≡◌, ◌⊎◌, inl, inr, ℕ, zero, suc, ◌+◌, ◌-◌, ◌<◌, ◌≤◌, Bool, true, false, List, [], ◌∷◌, ◌++◌, length, Option, Some, None, Result, Ok, Err, refl, sym, ap, ◌∙◌, subst, arith}
-use Rattle.std.specs.Prelude.{◌≢◌, IfSome, IsSome, slice_set}
+use Rattle.std.proofs.Common.{◌≡◌, inl, inr, ℕ, zero, suc, ◌+◌, ◌<◌, ◌≤◌, Bool, true, List, [], ◌∷◌, length, Option, Some, None, refl, sym, ap, ◌∙◌, subst, arith}
+use Rattle.std.specs.Prelude.{◌≢◌, IfSome, slice_set}
 use Rattle.std.proofs.lemmas.Bool.{cases_eq}
 use Rattle.wdt_units.specs.declared.blocks.Block.{Block}
 use Rattle.wdt_units.specs.declared.numbers.Lane.{Lane}
@@ -18,11 +18,11 @@ use Rattle.wdt_log.specs.OpenLog.{OpenLog, RestsIn}
 use Rattle.wdt_writer.specs.OnWay.{AreSound}
 use Rattle.wdt_writer.specs.declared.parts.Part.{Part}
 use Rattle.wdt_writer.specs.Answers.{IsSameOrSettled}
-use Rattle.wdt_writer.specs.PlainWriter.{PlainWriter, begun_at, gives_back, lands as landed_in, part_at, part_of, part_or, settled, taken_back, with_more}
+use Rattle.wdt_writer.specs.PlainWriter.{PlainWriter, begun_at, gives_back, lands as landed_in, part_of, part_or, taken_back, with_more}
 use Rattle.wdt_receiver_fsm.specs.declared.acts.RecvAct.{RecvAct}
 use Rattle.wdt_receiver_fsm.specs.declared.events.RecvEvent.TheVariants as events
 use Rattle.wdt_receiver_fsm.specs.declared.states.RecvState.TheVariants as states
-use Rattle.wdt_receiver_fsm.specs.Logging.{all_logged, all_logged_by, flush_calls, log_after}
+use Rattle.wdt_receiver_fsm.specs.Logging.{all_logged, all_logged_by, flush_calls}
 use Rattle.wdt_receiver_fsm.specs.Outcomes.{landed_by}
 use Rattle.wdt_receiver_fsm.specs.PlainReceiver.{PlainReceiver, failed, goes, is_batch_full, noted, with_lane}
 use Rattle.wdt_receiver_fsm.specs.ReceiverHistory.{past_of}
@@ -33,8 +33,7 @@ use Rattle.wdt_dock.specs.DockView.{HasLostDisk}
 use Rattle.wdt_dock.specs.End.{Books, EndView, lane_in, plain_with}
 use Rattle.wdt_dock.specs.Landing.{IsWholeOf}
 use Rattle.wdt_dock.proofs.Choices.{kept_plain, logged_stays, lost_answer}
-use Rattle.wdt_dock.proofs.Goodness.{files_behind_are}
-use Rattle.wdt_dock.proofs.Keeping.{LosesNone, Stays, loses_lane, stays_failed, stays_going, stays_more}
+use Rattle.wdt_dock.proofs.Keeping.{LosesNone, loses_lane, stays_failed, stays_going, stays_more}
 use Rattle.wdt_dock.proofs.LandedBlock.{books_landed}
 use Rattle.wdt_dock.proofs.Landings.{booked_now, landed_drops, landed_loses, part_beside, part_here}
 use Rattle.wdt_dock.proofs.Parting.{Drops, drops_on}

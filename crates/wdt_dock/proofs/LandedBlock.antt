@@ -1,7 +1,7 @@
 -- A block that lands: what is to be logged of it, and that the files that it leads to are the tree's.
 use Rattle.std.proofs.Common.{◌≡◌, ◌⊎◌, inl, inr, ℕ, ◌+◌, ◌-◌, ◌<◌, ◌≤◌, Bool, true, false, ◌&&◌, nat_lt, List, [], ◌∷◌, ◌++◌, append-nil, filter, length, Option, Some, None, refl, sym, ap, ◌∙◌, subst, arith}
 use Rattle.std.specs.Prelude.{cond, option_and_then, option_map, if◌then◌else◌, is_some, slice_set, ◌==◌}
-use Rattle.std.specs.List.{list_all, list_any}
+use Rattle.std.specs.List.{list_any}
 use Rattle.wdt_units.specs.declared.limits.TheConstants.{MAX_BLOCKS}
 use Rattle.wdt_units.specs.declared.blocks.Block.{Block}
 use Rattle.wdt_units.specs.Tree.{File, file_of}
@@ -13,10 +13,10 @@ use Rattle.wdt_logfmt.specs.Batches.{block_entries, entries_of, file_entry, file
 use Rattle.wdt_logfmt.specs.Beginning.{KnownFile, known_at}
 use Rattle.wdt_logfmt.specs.Landing.{IsAmong}
 use Rattle.wdt_logfmt.specs.Spelling.{written_version}
-use Rattle.wdt_logfmt.specs.View.{NamedFile, is_numbered, is_view}
+use Rattle.wdt_logfmt.specs.View.{NamedFile, is_numbered}
 use Rattle.wdt_logfmt.proofs.ForCallers.{all_added-append, batch-view, entries-append, taken_true}
 use Rattle.wdt_good.specs.Batch.{HoldsBatch, HoldsEntry}
-use Rattle.wdt_good.specs.Good.{Each, FitsTree, GoodFiles, HasBytes, HasTreeBytes, Stands}
+use Rattle.wdt_good.specs.Good.{Each, GoodFiles, HasBytes, HasTreeBytes, Stands}
 use Rattle.wdt_good.proofs.ForCallers.{batch_good, each_from, holds_more}
 use Rattle.wdt_log.specs.OpenLog.{OpenLog}
 use Rattle.wdt_files.specs.PlainFiles.{AreNamed, known_of}

@@ -1,22 +1,20 @@
 -- What of the blocks that landed is logged on the disk.
-use Rattle.std.proofs.Common.{◌≡◌, ◌⊎◌, inl, inr, ℕ, zero, suc, ◌+◌, ◌<◌, ◌≤◌, Bool, true, false, ◌||◌, List, [], ◌∷◌, ◌++◌, length, map, slice_get, Option, Some, None, refl, sym, ap, ◌∙◌, subst, arith}
+use Rattle.std.proofs.Common.{◌≡◌, inl, inr, ℕ, suc, Bool, true, false, List, [], ◌∷◌, ◌++◌, map, slice_get, Option, Some, None, refl, sym, ap, ◌∙◌, subst}
 use Rattle.std.specs.Prelude.{◌==◌, if◌then◌else◌}
 use Rattle.std.proofs.lemmas.Bool.{eqb-true, or_cases}
 use Rattle.std.proofs.lemmas.List.{append-nil}
 use Rattle.wdt_units.specs.declared.blocks.Block.{Block}
-use Rattle.wdt_units.specs.Have.{PlainSpan, is_in}
 use Rattle.wdt_depot.specs.Disk.{Disk}
 use Rattle.wdt_depot.specs.Moments.{IfTold, Told}
 use Rattle.wdt_ranges.specs.Spans.{has}
 use Rattle.wdt_ranges.proofs.ForCallers.{in_parts}
 use Rattle.wdt_logfmt.specs.Batches.{path_at, path_by}
-use Rattle.wdt_logfmt.specs.Beginning.{KnownFile, known_at, span_of}
+use Rattle.wdt_logfmt.specs.Beginning.{known_at, span_of}
 use Rattle.wdt_logfmt.specs.Landing.{IsAmong}
-use Rattle.wdt_logfmt.specs.Marks.{Marked, is_marked, is_there, marked_of, marks_of, spans_at}
+use Rattle.wdt_logfmt.specs.Marks.{Marked, is_marked, is_there, marked_of, spans_at}
 use Rattle.wdt_logfmt.specs.Spelling.{written_version}
 use Rattle.wdt_logfmt.specs.View.{NamedFile, is_view}
 use Rattle.wdt_good.specs.Good.{Each}
-use Rattle.wdt_good.specs.Growing.{GrowsIn}
 use Rattle.wdt_good.specs.Logged.{LoggedAt, LoggedName}
 use Rattle.wdt_good.proofs.ForCallers.{among_covers, among_names, batch_grows, logged_covers, logged_names}
 use Rattle.wdt_files.specs.PlainFiles.{known_of}
@@ -24,7 +22,7 @@ use Rattle.wdt_log.specs.OpenLog.{OpenLog, Rests}
 use Rattle.wdt_sender_fsm.specs.Rules.{is_failure}
 use Rattle.wdt_writer.specs.PlainWriter.{PlainWriter}
 use Rattle.wdt_receiver_fsm.specs.Batched.{IsBatched}
-use Rattle.wdt_receiver_fsm.specs.PlainReceiver.{PlainReceiver, has_finish}
+use Rattle.wdt_receiver_fsm.specs.PlainReceiver.{has_finish}
 use Rattle.wdt_receiver_fsm.specs.Receiver.{IsReceiver}
 use Rattle.wdt_receiver_fsm.proofs.ForCallers.{landed_named, landed_there}
 use Rattle.wdt_dock.specs.Desk.{IsDesk, plain_of}

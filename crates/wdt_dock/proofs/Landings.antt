@@ -1,6 +1,6 @@
 -- What stands behind a landing, with or without the flush behind it.
-use Rattle.std.proofs.Common.{◌≡◌, ◌⊎◌, inl, inr, ℕ, zero, suc, ◌+◌, ◌-◌, ◌<◌, ◌≤◌, Bool, true, false, List, [], ◌∷◌, ◌++◌, length, Option, Some, None, refl, sym, ap, ◌∙◌, subst, arith}
-use Rattle.std.specs.Prelude.{◌≢◌, IfSome, if◌then◌else◌, slice_set, ◌==◌}
+use Rattle.std.proofs.Common.{◌≡◌, inl, inr, ℕ, zero, suc, ◌<◌, Bool, true, false, List, [], ◌∷◌, length, Option, Some, None, refl, sym, ap, ◌∙◌, subst, arith}
+use Rattle.std.specs.Prelude.{IfSome, if◌then◌else◌, slice_set}
 use Rattle.std.proofs.lemmas.Bool.{cases_eq, eq-eqb, ne_eqb}
 use Rattle.std.proofs.lemmas.List.{length-set}
 use Rattle.wdt_units.specs.declared.blocks.Block.{Block}
@@ -19,29 +19,28 @@ use Rattle.wdt_sender_fsm.specs.declared.answers.EndAnswer.TheVariants as answer
 use Rattle.wdt_log.specs.Flushing.{ReadsStand}
 use Rattle.wdt_log.specs.OpenLog.{OpenLog, Rests, RestsIn}
 use Rattle.wdt_writer.specs.declared.parts.Part.{Part}
-use Rattle.wdt_writer.specs.PlainWriter.{PlainWriter, gives_back, lands as landed_in, part_at, part_of, part_or}
-use Rattle.wdt_receiver_fsm.specs.declared.acts.RecvAct.{RecvAct}
+use Rattle.wdt_writer.specs.PlainWriter.{PlainWriter, lands as landed_in, part_of}
 use Rattle.wdt_receiver_fsm.specs.declared.events.RecvEvent.TheVariants as events
 use Rattle.wdt_receiver_fsm.specs.declared.states.RecvLane.{RecvLane}
 use Rattle.wdt_receiver_fsm.specs.declared.states.RecvState.TheVariants as states
 use Rattle.wdt_receiver_fsm.specs.Logging.{all_logged, flush_calls, log_after}
 use Rattle.wdt_receiver_fsm.specs.Outcomes.{landed_by}
-use Rattle.wdt_receiver_fsm.specs.Plan.{EndsIn, Plan, PlanRan}
-use Rattle.wdt_receiver_fsm.specs.PlainReceiver.{PlainReceiver, failed, goes, is_batch_full, lane_at, noted, past_at, with_lane}
+use Rattle.wdt_receiver_fsm.specs.Plan.{EndsIn, PlanRan}
+use Rattle.wdt_receiver_fsm.specs.PlainReceiver.{PlainReceiver, failed, goes, is_batch_full, lane_at, past_at, with_lane}
 use Rattle.wdt_receiver_fsm.specs.ReceiverHistory.{RecvPast, past_of, past_of-append}
 use Rattle.wdt_receiver_fsm.specs.Rows.{Piece}
-use Rattle.wdt_receiver_fsm.specs.Turn.{Step, disk_fails, logs, reads, tells_failure}
+use Rattle.wdt_receiver_fsm.specs.Turn.{Step, logs, reads, tells_failure}
 use Rattle.wdt_receiver_fsm.proofs.ForCallers.{ends_as, logs_broken, logs_end_broken, logs_end_none, logs_end_well, logs_none, logs_well, plan_as}
 use Rattle.wdt_dock.specs.Booked.{IsBooked}
-use Rattle.wdt_dock.specs.Desk.{AreBooks, IsDesk, IsWritten, part_by, part_in, plain_of}
+use Rattle.wdt_dock.specs.Desk.{AreBooks, IsDesk, IsWritten, part_by, plain_of}
 use Rattle.wdt_dock.specs.DockGood.{DockGood, GoodReads, HasPart, HasPartOf, IfKnown, IsTrees, StandsWithin}
 use Rattle.wdt_dock.specs.DockView.{HasLostDisk}
 use Rattle.wdt_dock.specs.End.{EndView, lane_in}
 use Rattle.wdt_dock.specs.Landing.{IsWholeOf, land_plan}
 use Rattle.wdt_dock.proofs.Goodness.{files_behind_are, reads_after}
-use Rattle.wdt_dock.proofs.Keeping.{LosesNone, Stays, lane_other, loses_lane, stays_failed, stays_going}
-use Rattle.wdt_dock.proofs.LandedBlock.{adds_now, books_landed, files_landed}
-use Rattle.wdt_dock.proofs.Parting.{Drops, drops_on, part_gone, part_other, parts_long}
+use Rattle.wdt_dock.proofs.Keeping.{LosesNone, lane_other, loses_lane}
+use Rattle.wdt_dock.proofs.LandedBlock.{files_landed}
+use Rattle.wdt_dock.proofs.Parting.{Drops, part_gone, part_other, parts_long}
 
 -- ---- the receiver
 

@@ -1,6 +1,6 @@
 -- How long a batch of blocks that landed is.
 use Rattle.std.proofs.Common.{◌≡◌, inl, inr, ℕ, zero, suc, ◌+◌, ◌*◌, ◌<◌, ◌≤◌, ◌^◌, Bool, true, false, ◌&&◌, not, nat_lt, nat_le, List, [], ◌∷◌, ◌++◌, length, map, filter, Option, Some, None, refl, sym, ap, ◌∙◌, subst, arith, length-append}
-use Rattle.std.specs.Prelude.{cond, option_and_then, is_some, if◌then◌else◌, ◌==◌, IsTrue}
+use Rattle.std.specs.Prelude.{cond, option_and_then, if◌then◌else◌, ◌==◌}
 use Rattle.std.specs.Int.{bytes_high_first}
 use Rattle.std.specs.List.{list_all, list_any}
 use Rattle.std.specs.Str.{is_utf8}

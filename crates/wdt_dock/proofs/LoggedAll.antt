@@ -1,17 +1,16 @@
 -- The flush of what landed, as the plain receiver's.
-use Rattle.std.proofs.Common.{◌≡◌, ◌⊎◌, ℕ, ◌+◌, ◌<◌, ◌≤◌, ◌^◌, Bool, true, List, [], ◌∷◌, filter, length, map, Option, Some, None, Result, Ok, Err, refl, sym, ap, ◌∙◌, subst}
+use Rattle.std.proofs.Common.{◌≡◌, ◌⊎◌, ℕ, ◌+◌, ◌<◌, ◌≤◌, ◌^◌, Bool, true, List, [], ◌∷◌, filter, length, map, Option, Some, None, Result, Ok, refl, sym, ap, ◌∙◌, subst}
 use Rattle.std.specs.Prelude.{IsSome}
 use Rattle.wdt_units.specs.declared.limits.TheConstants.{MAX_BLOCKS}
 use Rattle.wdt_units.specs.Tree.{File}
 use Rattle.wdt_units.specs.declared.blocks.Block.{Block}
 use Rattle.wdt_depot.specs.Disk.{Disk}
 use Rattle.wdt_depot.specs.Moments.{IfTold, Told}
-use Rattle.wdt_depot.specs.Programs.{Calls, Drive, IsQuiet, drive_of}
+use Rattle.wdt_depot.specs.Programs.{Calls, Drive, drive_of}
 use Rattle.wdt_depot.specs.State.{State}
 use Rattle.wdt_logfmt.specs.declared.entry.LogEntry.{LogEntry}
 use Rattle.wdt_logfmt.specs.Adding.{all_added}
-use Rattle.wdt_logfmt.specs.Batches.{entries_of, files_behind, files_or, numbers_of, path_at}
-use Rattle.wdt_logfmt.specs.Beginning.{KnownFile}
+use Rattle.wdt_logfmt.specs.Batches.{entries_of, files_or, numbers_of, path_at}
 use Rattle.wdt_logfmt.specs.Landing.{IsAmong}
 use Rattle.wdt_logfmt.specs.Spelling.{closed_batch, spell_all, written_version}
 use Rattle.wdt_logfmt.specs.View.{Meaning, NamedFile}
@@ -24,8 +23,7 @@ use Rattle.wdt_log.specs.Flushing.{AllStand, HasLanded, IsPathAmong}
 use Rattle.wdt_log.specs.OpenLog.{Continues, OpenLog}
 use Rattle.wdt_writer.specs.PlainWriter.{PlainWriter, all_logged as written_off}
 use Rattle.wdt_receiver_fsm.specs.Batched.{is_filled}
-use Rattle.wdt_receiver_fsm.specs.Logging.{all_logged, all_logged_by, dirty_paths, flush_calls, flush_calls_by, flushed, log_after, pending}
-use Rattle.wdt_receiver_fsm.specs.PlainReceiver.{PlainReceiver}
+use Rattle.wdt_receiver_fsm.specs.Logging.{all_logged, all_logged_by, dirty_paths, flush_calls, flush_calls_by, log_after, pending}
 use Rattle.wdt_dock.specs.Booked.{IsBooked, KnownStand}
 use Rattle.wdt_dock.specs.Desk.{AreBooks, plain_of}
 use Rattle.wdt_dock.specs.End.{EndView}

@@ -1,6 +1,6 @@
 -- A lane's block that is begun is lost with its connection.
-use Rattle.std.proofs.Common.{◌≡◌, ◌⊎◌, inl, inr, ℕ, zero, suc, ◌+◌, ◌<◌, ◌≤◌, Bool, true, false, List, [], ◌∷◌, ◌++◌, length, map, sum_by, Option, Some, None, refl, sym, ap, ◌∙◌, subst, arith}
-use Rattle.std.specs.Prelude.{IfSome, if◌then◌else◌, slice_set, ◌==◌}
+use Rattle.std.proofs.Common.{◌≡◌, inl, inr, ℕ, zero, suc, ◌<◌, ◌≤◌, Bool, true, false, List, [], ◌∷◌, length, map, sum_by, Option, Some, None, refl, sym, ap, ◌∙◌, subst, arith}
+use Rattle.std.specs.Prelude.{IfSome, if◌then◌else◌, slice_set}
 use Rattle.std.proofs.lemmas.Bool.{cases_eq, eq-eqb, ne_eqb}
 use Rattle.std.proofs.lemmas.List.{length-set}
 use Rattle.std.proofs.lemmas.List.Sums.{sum_by-cons}
@@ -17,16 +17,16 @@ use Rattle.wdt_sender_fsm.specs.declared.answers.EndAnswer.TheVariants as answer
 use Rattle.wdt_sender_fsm.specs.Rules.{judged}
 use Rattle.wdt_log.specs.OpenLog.{OpenLog}
 use Rattle.wdt_writer.specs.declared.parts.Part.{Part}
-use Rattle.wdt_writer.specs.OnWay.{AreOnWay, AreSound}
+use Rattle.wdt_writer.specs.OnWay.{AreSound}
 use Rattle.wdt_writer.specs.PlainWriter.{PlainWriter, blocks_of, drops as without_part, part_of}
 use Rattle.wdt_receiver_fsm.specs.declared.events.RecvEvent.TheVariants as events
 use Rattle.wdt_receiver_fsm.specs.declared.states.RecvLane.{RecvLane}
 use Rattle.wdt_receiver_fsm.specs.declared.states.RecvState.TheVariants as states
 use Rattle.wdt_receiver_fsm.specs.Logging.{log_after}
-use Rattle.wdt_receiver_fsm.specs.PlainReceiver.{PlainReceiver, goes, lane_at, noted, past_at, with_lane}
+use Rattle.wdt_receiver_fsm.specs.PlainReceiver.{PlainReceiver, goes, lane_at, noted, past_at}
 use Rattle.wdt_receiver_fsm.specs.ReceiverHistory.{RecvPast, end_of, past_of, past_of-append}
-use Rattle.wdt_receiver_fsm.specs.Turn.{Step, drops, drops_lane, given_up, is_used_up, listen, listen_by}
-use Rattle.wdt_dock.specs.Desk.{AreBooks, IsDesk, part_by, plain_of}
+use Rattle.wdt_receiver_fsm.specs.Turn.{drops, drops_lane, given_up, is_used_up, listen_by}
+use Rattle.wdt_dock.specs.Desk.{IsDesk, part_by, plain_of}
 use Rattle.wdt_dock.specs.DockGood.{DockGood, GoodReads, HasPart, HasPartOf, IfKnown, IsTrees, StandsWithin}
 use Rattle.wdt_dock.specs.DockView.{HasLostDisk}
 use Rattle.wdt_dock.specs.End.{EndView, lane_in}

@@ -1,5 +1,5 @@
 -- Bytes of a lane's block are taken, call by call.
-use Rattle.std.proofs.Common.{◌≡◌, ◌⊎◌, inl, inr, ℕ, zero, suc, ◌+◌, ◌-◌, ◌<◌, ◌≤◌, Bool, true, false, List, [], ◌∷◌, length, Option, Some, None, Result, Ok, Err, refl, sym, ap, ◌∙◌, subst, arith}
+use Rattle.std.proofs.Common.{◌≡◌, inl, inr, ℕ, zero, suc, ◌+◌, ◌-◌, ◌<◌, ◌≤◌, Bool, true, false, List, [], ◌∷◌, length, Option, Some, None, Result, Ok, Err, refl, sym, ap, ◌∙◌, subst, arith}
 use Rattle.std.specs.Prelude.{◌≢◌, IfSome, IsErrOf, IsSome, slice_set}
 use Rattle.std.proofs.lemmas.Bool.{cases_eq}
 use Rattle.std.proofs.lemmas.List.{length-set}
@@ -7,7 +7,7 @@ use Rattle.wdt_units.specs.declared.blocks.Block.{Block}
 use Rattle.wdt_units.specs.declared.numbers.Lane.{Lane}
 use Rattle.wdt_units.specs.Tree.{File}
 use Rattle.wdt_depot.specs.Disk.{Disk, DiskFile, wrote}
-use Rattle.wdt_depot.specs.Moments.{IfTold, MayDo, OneStep, Told}
+use Rattle.wdt_depot.specs.Moments.{IfTold, OneStep, Told}
 use Rattle.wdt_depot.specs.Programs.{Calls, Drive}
 use Rattle.wdt_depot.specs.State.{State}
 use Rattle.wdt_logfmt.specs.Batches.{path_at, path_by}
@@ -16,20 +16,18 @@ use Rattle.wdt_good.specs.Calls.{run_piece}
 use Rattle.wdt_good.specs.Logged.{AllFit, GoodSince}
 use Rattle.wdt_good.proofs.ForCallers.{join_good, last_fits}
 use Rattle.wdt_sender_fsm.specs.declared.answers.EndAnswer.TheVariants as answers
-use Rattle.wdt_log.specs.OpenLog.{OpenLog, Rests, RestsIn}
+use Rattle.wdt_log.specs.OpenLog.{OpenLog, RestsIn}
 use Rattle.wdt_writer.specs.declared.fail.WriteFail.{WriteFail}
 use Rattle.wdt_writer.specs.declared.fail.WriteFail.TheVariants.{Disk as DiskFail, NoMemory}
 use Rattle.wdt_writer.specs.declared.parts.Part.{Part}
 use Rattle.wdt_writer.specs.Calls.{CanWrite, UsesDisk, path_begun, place_begun}
-use Rattle.wdt_writer.specs.PlainWriter.{PlainWriter, begun_at, part_at, part_of, place_of, takes, with_less}
+use Rattle.wdt_writer.specs.PlainWriter.{PlainWriter, begun_at, part_of, place_of, takes, with_less}
 use Rattle.wdt_receiver_fsm.specs.declared.acts.RecvAct.{RecvAct}
 use Rattle.wdt_receiver_fsm.specs.declared.states.RecvLane.{RecvLane}
 use Rattle.wdt_receiver_fsm.specs.declared.states.RecvState.TheVariants as states
-use Rattle.wdt_receiver_fsm.specs.Logging.{log_after}
 use Rattle.wdt_receiver_fsm.specs.PlainReceiver.{PlainReceiver, failed, goes, lane_at, past_at, with_lane}
 use Rattle.wdt_receiver_fsm.specs.ReceiverHistory.{past_of}
 use Rattle.wdt_receiver_fsm.specs.Plan.{EndsIn, PlanRan}
-use Rattle.wdt_receiver_fsm.specs.Rows.{Piece}
 use Rattle.wdt_receiver_fsm.specs.Turn.{Step, next_place, piece_of, piece_plan, takes_piece, tells_failure}
 use Rattle.wdt_receiver_fsm.proofs.ForCallers.{ends_as, piece_broken, piece_end_broken, piece_end_taken, piece_taken, plan_as}
 use Rattle.wdt_dock.specs.Desk.{AreBooks, IsDesk, IsWritten, books_of, part_by, part_in, plain_of}
@@ -40,7 +38,7 @@ use Rattle.wdt_dock.specs.Landing.{IsWholeOf}
 use Rattle.wdt_dock.proofs.Choices.{desk_after, lost_answer}
 use Rattle.wdt_dock.proofs.Keeping.{LosesNone, Stays, lane_here, lane_other, loses_lane, stays_failed, stays_going, stays_more}
 use Rattle.wdt_dock.proofs.Landings.{part_beside, part_here}
-use Rattle.wdt_dock.proofs.Taken.{begun_is, books_with, can_write, here, on_way, part_wrote, reads_wrote, some_of}
+use Rattle.wdt_dock.proofs.Taken.{begun_is, books_with, can_write, on_way, part_wrote, reads_wrote, some_of}
 use Rattle.wdt_dock.proofs.Written.{known_file}
 
 set_long : (parts : List (Option Part)) (l : ℕ) (o : Option Part) → length (slice_set parts l o) ≡ length parts

@@ -1,37 +1,30 @@
 -- Bytes of a begun block are taken: the parts, and what stands on the disk.
-use Rattle.std.proofs.Common.{◌≡◌, ◌⊎◌, inl, inr, ℕ, zero, suc, ◌+◌, ◌-◌, ◌<◌, ◌≤◌, Bool, true, false, List, [], ◌∷◌, length, map, Option, Some, None, Result, Ok, Err, refl, sym, ap, ◌∙◌, subst, arith}
-use Rattle.std.specs.Prelude.{◌≢◌, IfSome, slice_set}
+use Rattle.std.proofs.Common.{◌≡◌, inl, inr, ℕ, zero, suc, ◌+◌, ◌-◌, ◌<◌, ◌≤◌, List, [], ◌∷◌, length, map, Option, Some, None, refl, sym, ap, ◌∙◌, subst, arith}
+use Rattle.std.specs.Prelude.{IfSome, slice_set}
 use Rattle.std.proofs.lemmas.Bool.{cases_eq}
 use Rattle.wdt_units.specs.declared.blocks.Block.{Block}
 use Rattle.wdt_units.specs.declared.numbers.Lane.{Lane}
 use Rattle.wdt_units.specs.Tree.{File, IsRead}
 use Rattle.wdt_depot.specs.Disk.{Disk, seen_of, wrote}
-use Rattle.wdt_depot.specs.Moments.{IfTold, MayDo, OneStep, Told}
-use Rattle.wdt_depot.specs.State.{State}
+use Rattle.wdt_depot.specs.Moments.{IfTold, Told}
 use Rattle.wdt_logfmt.specs.Batches.{path_at}
 use Rattle.wdt_units.specs.declared.limits.TheConstants.{MAX_BLOCK, MAX_SPANS, MAX_TOTAL}
 use Rattle.wdt_logfmt.specs.Beginning.{KnownFile, bytes_with, known_at, spans_with}
 use Rattle.wdt_logfmt.specs.Marks.{marked_of}
 use Rattle.wdt_logfmt.specs.View.{NamedFile}
 use Rattle.wdt_good.specs.Good.{GoodFiles}
-use Rattle.wdt_good.specs.Logged.{GoodSince}
 use Rattle.wdt_good.specs.LogState.{LogOf}
-use Rattle.wdt_good.proofs.ForCallers.{last_fits}
 use Rattle.wdt_log.specs.OpenLog.{OpenLog}
-use Rattle.wdt_writer.specs.declared.fail.WriteFail.{WriteFail}
 use Rattle.wdt_writer.specs.declared.parts.Part.{Part}
 use Rattle.wdt_writer.specs.Calls.{CanWrite}
 use Rattle.wdt_writer.specs.OnWay.{AreApart, AreSound, IsClearOf, IsOnWay}
-use Rattle.wdt_writer.specs.PlainWriter.{PlainWriter, begun_at, blocks_of, part_at, part_of, part_or, place_of, takes, with_less}
-use Rattle.wdt_receiver_fsm.specs.Logging.{log_after}
-use Rattle.wdt_receiver_fsm.specs.PlainReceiver.{PlainReceiver, lane_at, past_at}
+use Rattle.wdt_writer.specs.PlainWriter.{PlainWriter, begun_at, blocks_of, part_at, part_of, part_or, place_of}
 use Rattle.wdt_receiver_fsm.specs.ReceiverHistory.{past_of}
 use Rattle.wdt_receiver_fsm.specs.Turn.{next_place}
-use Rattle.wdt_dock.specs.Desk.{AreBooks, IsDesk, IsWritten, part_by, part_in, plain_of}
+use Rattle.wdt_dock.specs.Desk.{AreBooks, IsDesk, part_by, plain_of}
 use Rattle.wdt_dock.specs.DockGood.{DockGood, GoodReads, HasPart, HasPartOf, IsPieceOf, StandsWithin}
 use Rattle.wdt_dock.specs.DockView.{HasLostDisk}
 use Rattle.wdt_dock.specs.End.{EndView, lane_in}
-use Rattle.wdt_dock.specs.Landing.{IsWholeOf}
 use Rattle.wdt_dock.proofs.Goodness.{files_behind_are}
 use Rattle.wdt_dock.proofs.Landings.{part_beside, part_here}
 use Rattle.wdt_dock.proofs.Written.{all_stand_after, apart_part, clear_logged, files_read, known_file, may, own_part, part_after}

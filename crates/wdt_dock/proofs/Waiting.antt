@@ -1,5 +1,5 @@
 -- The choice of an idle lane: the last word, the finish, or closed lanes to tell of and to wait.
-use Rattle.std.proofs.Common.{◌≡◌, ℕ, ◌<◌, Bool, true, false, List, [], ◌∷◌, ◌++◌, length, Option, refl, sym, ap, ◌∙◌, subst, arith}
+use Rattle.std.proofs.Common.{◌≡◌, ℕ, ◌<◌, Bool, true, false, List, [], ◌∷◌, length, Option, refl, sym, ap, ◌∙◌, subst, arith}
 use Rattle.wdt_units.specs.declared.numbers.Lane.{Lane}
 use Rattle.wdt_depot.specs.Programs.{Drive}
 use Rattle.wdt_depot.specs.State.{Counts, State}
@@ -10,10 +10,10 @@ use Rattle.wdt_receiver_fsm.specs.declared.events.RecvEvent.{RecvEvent}
 use Rattle.wdt_receiver_fsm.specs.declared.events.RecvEvent.TheVariants as events
 use Rattle.wdt_receiver_fsm.specs.declared.states.RecvState.TheVariants as states
 use Rattle.wdt_receiver_fsm.specs.Logging.{log_after}
-use Rattle.wdt_receiver_fsm.specs.Plan.{EndsIn, Plan, PlanRan, ends}
+use Rattle.wdt_receiver_fsm.specs.Plan.{EndsIn, PlanRan, ends}
 use Rattle.wdt_receiver_fsm.specs.PlainReceiver.{PlainReceiver, can_finish, goes, has_finish, lane_at, noted, untold_at}
 use Rattle.wdt_receiver_fsm.specs.Ready.{is_closed, is_ready}
-use Rattle.wdt_receiver_fsm.specs.ReceiverHistory.{EndPast, RecvPast, end_of, end_of-append, past_of, past_of-append}
+use Rattle.wdt_receiver_fsm.specs.ReceiverHistory.{EndPast, RecvPast, end_of, end_of-append, past_of-append}
 use Rattle.wdt_receiver_fsm.specs.Sets.{set_of}
 use Rattle.wdt_receiver_fsm.specs.Turn.{Step, finish_plan, idle_by, says_done, tells_by, waits_by}
 use Rattle.wdt_receiver_fsm.proofs.ForCallers.{ends_as, plan_as, plan_ends}

@@ -1,5 +1,5 @@
 -- When what landed may be logged, as it stands on the disk.
-use Rattle.std.specs.Prelude.{ℕ, List, Option}
+use Rattle.std.specs.Prelude.{List, Option}
 use Rattle.wdt_units.specs.Tree.{File}
 use Rattle.wdt_depot.specs.Disk.{Disk, seen_of}
 use Rattle.wdt_logfmt.specs.Beginning.{KnownFile}

@@ -1,5 +1,5 @@
 -- A receiver's end with its files: what hangs together of its lanes, its log and its writer of blocks.
-use Rattle.std.specs.Prelude.{◌≡◌, ◌≢◌, ℕ, ◌<◌, false, List, [], length, IsTrue, Option, Some, None}
+use Rattle.std.specs.Prelude.{◌≡◌, ◌≢◌, ℕ, ◌<◌, false, [], length, IsTrue, Option, Some, None}
 use Rattle.wdt_units.specs.declared.blocks.Block.{Block}
 use Rattle.wdt_depot.specs.State.{State}
 use Rattle.wdt_logfmt.specs.Adding.{all_added}

@@ -1,4 +1,4 @@
-use Rattle.std.proofs.Common.{◌≡◌, ◌∙◌, List, true, false, length, refl, sym, subst}
+use Rattle.std.proofs.Common.{◌∙◌, true, false, length, refl, sym, subst}
 use Rattle.wdt_depot.specs.Moments.{IfTold}
 use Rattle.wdt_depot.specs.Programs.{drive_of}
 use Rattle.wdt_receiver_fsm.specs.PlainReceiver.{PlainReceiver}

@@ -1,4 +1,4 @@
-use Rattle.std.proofs.Common.{◌≡◌, ◌∙◌, ◌+◌, ℕ, length, ap, sym, arith}
+use Rattle.std.proofs.Common.{arith}
 use Rattle.wdt_depot.specs.Programs.{drive_of}
 use Rattle.wdt_dock.specs.Desk.{plain_of}
 use Rattle.wdt_dock.proofs.Choices.{counts_lost, counts_none}

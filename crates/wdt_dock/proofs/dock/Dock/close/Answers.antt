@@ -2,7 +2,7 @@ use Rattle.std.proofs.Common.{◌≡◌, true, false, ap, subst}
 use Rattle.wdt_depot.specs.Moments.{IfTold}
 use Rattle.wdt_sender_fsm.specs.Rules.{is_failure}
 use Rattle.wdt_receiver_fsm.specs.PlainReceiver.{PlainReceiver, has_finish}
-use Rattle.wdt_dock.specs.DockView.{DockView, HasLostDisk}
+use Rattle.wdt_dock.specs.DockView.{HasLostDisk}
 use Rattle.wdt_dock.specs.Landed.{AllLogged, EachLogged}
 use Rattle.wdt_dock.proofs.Keeping.{not_lost}
 use Rattle.wdt_dock.proofs.LandedLogged.{told_all, told_each}
