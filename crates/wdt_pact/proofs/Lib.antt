@@ -59,3 +59,6 @@ mod Ending
 mod Finishing
 mod Busy
 mod Apart
+mod Seen
+mod Events
+mod Confirming
