@@ -33,7 +33,7 @@ use Rattle.wdt_pact.proofs.Events.{recv_cases, send_cases}
 use Rattle.wdt_pact.proofs.Finishing.{every_at, told_closed}
 use Rattle.wdt_pact.proofs.RecvHands.{Hands, holds_input}
 use Rattle.wdt_pact.proofs.RecvRows.{ends_in}
-use Rattle.wdt_pact.proofs.Seen.{Asks, Closes, Drops, Ends, NowIdle, Off, Point, Seen, Stays, Tells, WasIdle, goes_on, ready_same, turn_seen}
+use Rattle.wdt_pact.proofs.RecvSeen.{Asks, Closes, Drops, Ends, NowIdle, Off, Point, Seen, Stays, Tells, WasIdle, goes_on, ready_same, turn_seen}
 
 -- what the sender's own crate promises of closed lanes, and of each lane's past
 abbrev pub StayClosed : Type 0

@@ -59,6 +59,12 @@ mod Ending
 mod Finishing
 mod Busy
 mod Apart
-mod Seen
+mod RecvSeen
 mod Events
 mod Confirming
+mod Telling
+mod SendSeen
+mod TellingUp
+mod RecvTalks
+mod TellingSteps
+mod TellingAll

@@ -16,6 +16,6 @@ pub use laws::{
     blocks_land, blocks_land_in_order, confirmed_lanes_are_known, connections_are_cut_and_taken,
     counts_are_right,
     every_event_keeps_a_world_sound, lanes_tell_of_closed_lanes, one_end_can_move,
-    the_finish_is_right, what_is_read_is_understood, what_is_read_may_come,
+    tellings_reach_the_sender, the_finish_is_right, what_is_read_is_understood, what_is_read_may_come,
     what_is_read_was_written, what_is_written_is_a_move, worlds_begin_sound,
 };

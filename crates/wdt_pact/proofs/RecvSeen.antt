@@ -180,7 +180,7 @@ module _ (w : PlainWorld) (l : ℕ) (c : Conversation w) (within : l < length w.
   goes_on = fares_goes (is_failure w.receiver.answer) (state_at w.receiver l) (lane_at w.receiver l) (past_at w.receiver l) (end_of w.receiver.history) (c.receiver.lanes l below) lives
 
   -- an input that no world hands in
-  hands_not : {P : Type 0} (input : RecvIn) → put ≡ Given input → is_woken input ≡ false → (RecvBelongs (RecvHas input) (lane_at w.receiver l) (past_at w.receiver l) → ⊥) → P
+  pub hands_not : {P : Type 0} (input : RecvIn) → put ≡ Given input → is_woken input ≡ false → (RecvBelongs (RecvHas input) (lane_at w.receiver l) (past_at w.receiver l) → ⊥) → P
   hands_not input given wakes none = absurd (none (subst (λ (h : RecvHold). RecvBelongs h (lane_at w.receiver l) (past_at w.receiver l)) (holds_input (pair_at w l).recv put input hands given wakes) belongs))
 
   same : (step : Step) → step.1.history ≡ w.receiver.history → Sees step
@@ -190,7 +190,7 @@ module _ (w : PlainWorld) (l : ℕ) (c : Conversation w) (within : l < length w.
   quietly : (step : Step) (e : RecvEvent) → is_quiet e ≡ true → step.1.history ≡ w.receiver.history ++ e ∷ [] → Sees step
   quietly step e quiet is = Stays (steady_on w.receiver.history (w.receiver.history ++ e ∷ []) step.1.history (steady_more w.receiver.history e quiet) (steady_same (w.receiver.history ++ e ∷ []) step.1.history is))
 
-  rested : {P : Type 0} → outcomes.Rests w.receiver (number l) put → P
+  pub rested : {P : Type 0} → outcomes.Rests w.receiver (number l) put → P
   rested (WasOver here) = absurd (both_ways (is_ended (state_at w.receiver l)) lives (ap is_ended here))
   rested (WasStray sound stray) = absurd (both_ways (is_stray (row_at w.receiver (number l) put)) (no_stray w.receiver l (pair_at w l).recv put hands belongs) stray)
   rested (WasSettled sound here given answer) = hands_not inputs.Starved given refl (λ b. b)
