@@ -93,7 +93,7 @@ asked_apart s ds us (inr e) a = go ds us (subst (λ (x : Phase). OnLink (Talks x
   go ds (u ∷ us) (inr t) = let x = t.1 in cc
 
 -- behind a phase in which the receiver has the word nothing comes down
-asked_none : (ds : List Message) → Hears down is_calm is_abort_down Asked ds → has_done ds ≡ false
+pub asked_none : (ds : List Message) → Hears down is_calm is_abort_down Asked ds → has_done ds ≡ false
 asked_none ds (inl a) = go ds a.at a.moves where
   go : (ds : List Message) (q : Phase) → moved down ds Asked ≡ Some q → has_done ds ≡ false
   go [] q e = refl
@@ -106,7 +106,7 @@ asked_none ds (inr a) = ap has_done a.all ∙ go a.before a.last a.rests.at a.fa
 
 -- ---- a lane that told of one that the sender doesn't know as closed
 
-marks_asked : (n : ℕ) (f : Frame) (q r : Phase) → marks_lane n f ≡ true → up q f ≡ Some r → q ≡ Asked
+pub marks_asked : (n : ℕ) (f : Frame) (q r : Phase) → marks_lane n f ≡ true → up q f ≡ Some r → q ≡ Asked
 marks_asked n (frames.ErrMarks ms) Asked r m e = refl
 marks_asked n (frames.ErrMarks ms) q r m e = cc
 marks_asked n f q r m e = cc
@@ -193,6 +193,16 @@ module _ (w : PlainWorld) (k n : ℕ) (c : Conversation w) (below : k < length w
       (λ q e. let t = taken_at q e in (f q t.0 e t.1 t.2).0)
       (λ q e. let t = taken_at q e in ap (λ (o : Option Link). has_done (down_sent o)) t.1 ∙ (f q t.0 e t.1 t.2).1)
       (λ q e. let t = taken_at q e in (f q t.0 e t.1 t.2).2)
+
+  -- where marks are on their way to a sender that talks, no last word is on its way, nor read
+  pub marked_none : (q : Phase) → receives_at w k ≡ Talks q → (pair_at w k).newest ≡ None → IsTalking (sends_at w k) → marked_in n (send_in_hand (pair_at w k).send ++ up_sent (pair_at w k).taken) ≡ true → has_done (in_hand (pair_at w k).recv ++ down_sent (pair_at w k).taken) ≡ false
+  marked_none q e top talks m =
+      let t = taken_at q e in
+      let y = marked_quiet n (lane_at w.sender k) (past_at w.sender k).is_acked (pair_at w k).send (sends_at w k) q t.0 (pair_at w k).newest refl top talks h.send_writes t.2 (subst (λ (o : Option Link). marked_in n (send_in_hand (pair_at w k).send ++ up_sent o) ≡ true) t.1 m) in
+      has_done-append (in_hand (pair_at w k).recv) (down_sent (pair_at w k).taken)
+      ∙ or_from (has_done (in_hand (pair_at w k).recv)) (has_done (down_sent (pair_at w k).taken))
+      (false_from_ne_true (has_done (in_hand (pair_at w k).recv)) (λ d. both_ways (is_late q) y.0 (held_late (recv.lane_at w.receiver k) (recv.past_at w.receiver k).is_idle (recv.past_at w.receiver k).is_acked (pair_at w k).recv q e d)))
+      (ap (λ (o : Option Link). has_done (down_sent o)) t.1 ∙ y.1)
 
   told_quiet : IsTelling w k n → is_closed w.sender n ≡ false → nothing
   told_quiet (inl x) opens = absurd (both_ways (is_closed w.sender n) opens x)

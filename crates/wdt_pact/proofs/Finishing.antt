@@ -40,7 +40,7 @@ use Rattle.wdt_pact.proofs.Lists.{blocks_in-append}
 
 -- ---- what holds of every lane
 
-every_at : (n k : ℕ) (f : ℕ → Bool) → every n f ≡ true → k < n → f k ≡ true
+pub every_at : (n k : ℕ) (f : ℕ → Bool) → every n f ≡ true → k < n → f k ≡ true
 every_at zero k f e within = absurd (omega (arith, within))
 every_at (suc n) k f e within = go (λ b. every_at n k f (and_parts (every n f) (f n) e).0 b) (cases_lt k n) where
   go : (k < n → f k ≡ true) → (k < n) ⊎ (n ≤ k) → f k ≡ true
@@ -237,7 +237,7 @@ module _ (sounds : (n : ℕ) (planned : List Block) (h : List SendEvent) (l : �
     go [] e = e
     go (b ∷ bs) e = let x = f.witness sound (λ (n : waiting_blocks w.sender ≡ []). cons_not b bs (sym e ∙ n)) in absurd (no_busy r x.0 x.1 x.2)
 
-  told_closed : (k : ℕ) → has (telling w l) k ≡ true → is_closed w.sender k ≡ true
+  pub told_closed : (k : ℕ) → has (telling w l) k ≡ true → is_closed w.sender k ≡ true
   told_closed k told = elim (f.tellings l k within (subst IsTalking (sym asked) tt) told) [
     | inl x ↦ x
     | inr (inl x) ↦ absurd (both_ways true (sym (subst (λ (h : RecvHold). marked_in k (to_say h) ≡ true) word x)) refl)

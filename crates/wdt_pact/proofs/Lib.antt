@@ -59,3 +59,12 @@ mod Ending
 mod Finishing
 mod Busy
 mod Apart
+mod RecvSeen
+mod Events
+mod Confirming
+mod Telling
+mod SendSeen
+mod TellingUp
+mod RecvTalks
+mod TellingSteps
+mod TellingAll

@@ -74,7 +74,7 @@ filter_same p q same [] = refl
 filter_same p q same (b ∷ bs) = ap (λ (x : Bool). if x then b ∷ filter p bs else filter p bs) (same b) ∙ ap (λ (xs : List Block). if q b then b ∷ xs else xs) (filter_same p q same bs)
 
 -- where no lane's list changes, the same blocks wait
-same_waiting : (n : ℕ) (planned : List Block) (g h : List SendEvent) → ((k : ℕ) → k < n → (past_of g k).claims.kept ≡ (past_of h k).claims.kept) → queued n planned g ≡ queued n planned h
+pub same_waiting : (n : ℕ) (planned : List Block) (g h : List SendEvent) → ((k : ℕ) → k < n → (past_of g k).claims.kept ≡ (past_of h k).claims.kept) → queued n planned g ≡ queued n planned h
 same_waiting n planned g h same =
     ap (λ (bs : List Block). queue_of bs (claims_of n g)) (planned_now-is planned g ∙ sym (planned_now-is planned h))
     ∙ filter_same (is_queued (claims_of n g)) (is_queued (claims_of n h)) (λ b. ap not (any_kept b n (λ k. (past_of h k).claims) (λ k. (past_of g k).claims) same)) (planned_now planned h)

@@ -136,7 +136,7 @@ module _ (lane : SendLane) where
 
 -- ---- behind a turn
 
-put_is : (t : PlainSender) (l : ℕ) (lane : SendLane) → l < length t.lanes → lane_at (with_lane t (number l) lane) l ≡ lane
+pub put_is : (t : PlainSender) (l : ℕ) (lane : SendLane) → l < length t.lanes → lane_at (with_lane t (number l) lane) l ≡ lane
 put_is t l lane within = ap lane_or_ended (get_set t.lanes l lane within)
 
 module _ (comes : (s : PlainSender) (k : Lane) (i : SendIn) → Comes s k i (send_turn s k i)) (touches : (s : PlainSender) (k : Lane) (i : SendIn) → Touches s k i (send_turn s k i).1) (w : PlainWorld) (l : ℕ) (input : SendIn) (c : Conversation w) (within : l < length w.pairs) (belongs : SendBelongs (SendHas input) (lane_at w.sender l)) where

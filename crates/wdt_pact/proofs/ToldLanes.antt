@@ -17,7 +17,7 @@ use Rattle.wdt_receiver_fsm.proofs.ForCallers.{tellers_tell}
 
 -- ---- lists of lanes
 
-in_filter : (f : ℕ → Bool) (xs : List ℕ) (q : ℕ) → has (filter f xs) q ≡ true → f q ≡ true
+pub in_filter : (f : ℕ → Bool) (xs : List ℕ) (q : ℕ) → has (filter f xs) q ≡ true → f q ≡ true
 in_filter f [] q e = cc
 in_filter f (x ∷ xs) q e = go (in_filter f xs q) (f x) refl e
   where
@@ -29,7 +29,7 @@ or_same : (a b c d : Bool) → a ≡ b → c ≡ d → (a || c) ≡ (b || d)
 or_same a b c d e f = ap (λ (x : Bool). x || c) e ∙ ap (λ (x : Bool). b || x) f
 
 -- a set has the lanes of which it is made
-has_set : (xs : List ℕ) (k : ℕ) → has_lane (set_of xs) k ≡ has xs k
+pub has_set : (xs : List ℕ) (k : ℕ) → has_lane (set_of xs) k ≡ has xs k
 has_set [] k = in_none k
 has_set (x ∷ xs) k = in_with (only_lane x) (set_of xs) k ∙ or_same (has_lane (only_lane x) k) (x == k) (has_lane (set_of xs) k) (has xs k) (in_only x k) (has_set xs k)
 

@@ -17,8 +17,8 @@ ghost use Rattle.wdt_sender_fsm.specs.declared.acts.SendAct.TheVariants as acts;
 ghost use Rattle.wdt_sender_fsm.specs.declared.events.SendEvent.TheVariants.{Sent};
 ghost use Rattle.wdt_sender_fsm.specs.declared.inputs.SendIn.TheVariants as inputs;
 ghost use Rattle.wdt_sender_fsm.specs.declared.states.SendState.TheVariants as states;
-ghost use Rattle.wdt_pact.specs.Stances.{has_link};
-ghost use Rattle.wdt_sender_fsm.specs.PlainSender.{lane_at, least_queued, new_lane, noted, opened, past_at, state_at, waiting_blocks};
+ghost use Rattle.wdt_pact.specs.Stances.{IsTalking, has_link};
+ghost use Rattle.wdt_sender_fsm.specs.PlainSender.{is_closed, lane_at, least_queued, new_lane, noted, opened, past_at, state_at, waiting_blocks};
 ghost use Rattle.wdt_sender_fsm.specs.Faults.{count_fault, has_stranger, marks_fault};
 ghost use Rattle.wdt_sender_fsm.specs.Phases.{Message, is_abort, is_named};
 ghost use Rattle.wdt_sender_fsm.specs.Rows.{is_reading, row_of};
@@ -41,7 +41,7 @@ ghost use Rattle.wdt_pact.specs.Belongs.{RecvBelongsAt, RecvFits, SendBelongsAt}
 ghost use Rattle.wdt_pact.specs.Bytes.{FitsFront, FrontDown, FrontUp, bytes_down, bytes_up};
 ghost use Rattle.wdt_pact.specs.Conversation.{Conversation, common, receives, receiving, sending, sends};
 ghost use Rattle.wdt_pact.specs.Each.{Each};
-ghost use Rattle.wdt_pact.specs.Finishing.{Finishing};
+ghost use Rattle.wdt_pact.specs.Finishing.{Finishing, IsTelling, receives_at, telling};
 ghost use Rattle.wdt_pact.specs.Fitting.{IsSound, lane_of};
 ghost use Rattle.wdt_pact.specs.Links.{front, size_down, size_up};
 ghost use Rattle.wdt_pact.specs.Lists.{Splits};
@@ -230,6 +230,38 @@ pub fn lanes_tell_of_closed_lanes()
     ensures known { (w : PlainWorld) (l q : ℕ) → Conversation w → (recv.past_at w.receiver l).is_up ≡ true → has (recv.past_at w.receiver l).told q ≡ true
         → (is_confirmed w.receiver.history q ≡ true) ⊎ (((recv.past_at w.receiver l).is_idle ≡ false) × (has (recv.past_at w.receiver l).telling q ≡ true)) }
 {}
+
+/// Whatever happens to a sound world, a closed lane that is confirmed at the receiver is closed at the sender, too: where the
+/// lane that told of it asks for the end again, the sender has read that it is closed.
+pub fn confirmed_lanes_are_known()
+    ensures { (w : PlainWorld) (e : WorldEvent) → IsSound w → Finishing w → lane_of e < length w.pairs → (q : ℕ) → is_confirmed (happens w e).receiver.history q ≡ true
+        → is_closed (happens w e).sender q ≡ true }
+{
+    histories_are_sound();
+    steps_touch_their_lane();
+}
+
+/// Whatever happens to a sound world, a finish that is ready comes in the very step with which it is, unless the receiver's
+/// end fails in it.
+pub fn a_ready_finish_comes()
+    ensures { (w : PlainWorld) (e : WorldEvent) → IsSound w → Finishing w → lane_of e < length w.pairs → is_failure (happens w e).receiver.answer ≡ false
+        → recv.can_finish (happens w e).receiver ≡ true → recv.has_finish (happens w e).receiver ≡ true }
+{
+    histories_are_sound();
+    steps_touch_their_lane();
+}
+
+/// Whatever happens to a sound world, of a closed lane of which a lane that talks has told the sender knows or will know: the mark
+/// is to be written, or on its way to a sender that listens; or the sender says nothing more there, and its last word isn't
+/// on its way.
+pub fn tellings_reach_the_sender()
+    ensures { (w : PlainWorld) (e : WorldEvent) → IsSound w → Finishing w → lane_of e < length w.pairs → (l q : ℕ) → l < length (happens w e).pairs
+        → IsTalking (receives_at (happens w e) l) → has (telling (happens w e) l) q ≡ true → IsTelling (happens w e) l q }
+{
+    histories_are_sound();
+    steps_have_outcomes();
+    steps_touch_their_lane();
+}
 
 /// Where a lane reads that nothing more is to come, and the receiver is ready for the finish with it, no block
 /// waits at the sender, and each lane has landed all that it claimed, and holds no block.
