@@ -1,6 +1,11 @@
 -- Numbers within limits.
-use Rattle.std.specs.Prelude.{ℕ, ◌&&◌, nat_le, List, Option, Some, None, option_and_then, if◌then◌else◌}
+use Rattle.std.specs.Prelude.{ℕ, ◌≤◌, ◌&&◌, nat_le, List, Option, Some, None, option_and_then, if◌then◌else◌}
 use Rattle.wdt_units.specs.Decimal.{number_of}
+
+-- a number lies within limits
+pub record IsWithin (low high number : ℕ) : Type 0 where
+  pub least : low ≤ number
+  pub greatest : number ≤ high
 
 -- a number that lies within limits
 abbrev pub within : ℕ → ℕ → ℕ → Option ℕ

@@ -1,43 +1,105 @@
 -- The options of a command.
-use Rattle.std.specs.Prelude.{ℕ, ◌≤◌, List, [], ◌∷◌, Option, Some, None, IfSome, if◌then◌else◌, codes}
+use Rattle.std.specs.Prelude.{ℕ, List, [], ◌∷◌, Option, Some, None, option_and_then, option_map, IfSome, if◌then◌else◌, codes}
 use Rattle.std.specs.Str.{bytes_eq}
-use Rattle.wdt_units.specs.declared.limits.TheConstants.{DEFAULT_BLOCK, MAX_BLOCK}
-use Rattle.wdt_words.specs.Numbers.{number_in}
+use Rattle.wdt_units.specs.declared.limits.TheConstants.{DEFAULT_BATCH, DEFAULT_BLOCK, MAX_BATCH, MAX_BLOCK, MAX_LANES}
+use Rattle.wdt_words.specs.Numbers.{number_in, IsWithin}
+use Rattle.wdt_words.specs.declared.options.Form.{Form}
+use Rattle.wdt_words.specs.declared.options.Form.TheVariants as forms
 use Rattle.wdt_words.specs.declared.options.Options.{Options}
+use Rattle.wdt_words.specs.declared.options.Setting.{Setting}
+use Rattle.wdt_words.specs.declared.options.Setting.TheVariants.{Lanes, Block, Batch}
+use Rattle.wdt_words.specs.declared.options.TheConstants.{DEFAULT_LANES}
+
+-- ---- names
+
+-- the option of this name, of those that not every form takes
+abbrev pub other_setting : Form → List ℕ → Option Setting
+other_setting forms.Plan name = None
+other_setting forms.Copy name = if bytes_eq name (codes "--lanes") then Some Lanes else if bytes_eq name (codes "--batch") then Some Batch else None
+
+-- the option of this name, if the form takes one
+abbrev pub setting_of : Form → List ℕ → Option Setting
+setting_of form name = if bytes_eq name (codes "--block") then Some Block else other_setting form name
+
+-- ---- values
+
+-- the greatest value of an option; the least is 1
+abbrev pub greatest_of : Setting → ℕ
+greatest_of Lanes = MAX_LANES
+greatest_of Block = MAX_BLOCK
+greatest_of Batch = MAX_BATCH
+
+-- a value that an option may have
+abbrev pub IsValueOf : Setting → ℕ → Type 0
+IsValueOf setting value = IsWithin 1 (greatest_of setting) value
+
+-- the value of an option, where it is given
+abbrev pub value_of : Options → Setting → Option ℕ
+value_of options Lanes = options.lanes
+value_of options Block = options.block
+value_of options Batch = options.batch
+
+-- the options with a value for one of them
+abbrev pub with_value : Options → Setting → ℕ → Options
+with_value options Lanes value = record options { lanes = Some value }
+with_value options Block value = record options { block = Some value }
+with_value options Batch value = record options { batch = Some value }
+
+-- each option that is given has a value that it may have
+pub record AreWithin (options : Options) : Type 0 where
+  pub lanes : IfSome options.lanes (IsWithin 1 MAX_LANES)
+  pub block : IfSome options.block (IsWithin 1 MAX_BLOCK)
+  pub batch : IfSome options.batch (IsWithin 1 MAX_BATCH)
+
+-- ---- words
 
 -- no option was read yet
 abbrev pub no_options : Options
-no_options = record { block = None }
+no_options = record { lanes = None; block = None; batch = None }
 
--- a block size is given for the first time, by a word that is a number
-abbrev pub block_once : Option ℕ → Option ℕ → Option Options
-block_once None None = None
-block_once None (Some block) = Some (record { block = Some block })
-block_once (Some before) given = None
+-- what is given, unless it was given before
+abbrev pub once : Option ℕ → Option ℕ → Option ℕ
+once None given = given
+once (Some before) given = None
+
+-- an option is given for the first time, by a word that is a number of it
+abbrev pub option_once : Options → Setting → Option ℕ → Option Options
+option_once read setting given = option_map (with_value read setting) (once (value_of read setting) given)
+
+-- one more option, whose value this word is
+abbrev pub setting_with : Options → List ℕ → Setting → Option Options
+setting_with read value setting = option_once read setting (number_in 1 (greatest_of setting) value)
 
 -- one more option: its name, and its value
-abbrev pub option_with : Options → List ℕ → List ℕ → Option Options
-option_with read name value = if bytes_eq name (codes "--block") then block_once read.block (number_in 1 MAX_BLOCK value) else None
+abbrev pub option_with : Form → Options → List ℕ → List ℕ → Option Options
+option_with form read name value = option_and_then (setting_with read value) (setting_of form name)
 
 -- the options that were read, and those that the words are
-abbrev pub options_from : Option Options → List (List ℕ) → Option Options
-options_from None words = None
-options_from (Some read) [] = Some read
-options_from (Some read) (name ∷ []) = None
-options_from (Some read) (name ∷ value ∷ more) = options_from (option_with read name value) more
+abbrev pub options_from : Form → Option Options → List (List ℕ) → Option Options
+options_from form None words = None
+options_from form (Some read) [] = Some read
+options_from form (Some read) (name ∷ []) = None
+options_from form (Some read) (name ∷ value ∷ more) = options_from form (option_with form read name value) more
 
 -- the options that words are: each a name with its value, in any order and at most once
-abbrev pub options_of : List (List ℕ) → Option Options
-options_of words = options_from (Some no_options) words
+abbrev pub options_of : Form → List (List ℕ) → Option Options
+options_of form words = options_from form (Some no_options) words
 
--- the most bytes of a block: the usual ones where it isn't given
+-- ---- what holds where an option isn't given
+
+-- a number, or else another
+abbrev pub number_or : ℕ → Option ℕ → ℕ
+number_or other None = other
+number_or other (Some number) = number
+
+-- how many lanes
+abbrev pub lanes_of : Options → ℕ
+lanes_of options = number_or DEFAULT_LANES options.lanes
+
+-- the most bytes of a block
 abbrev pub block_of : Options → ℕ
-block_of options = size_or options.block
-  where
-    size_or : Option ℕ → ℕ
-    size_or None = DEFAULT_BLOCK
-    size_or (Some block) = block
+block_of options = number_or DEFAULT_BLOCK options.block
 
--- a block size that is given isn't 0
-abbrev pub HasPositive : Options → Type 0
-HasPositive options = IfSome options.block (λ block. 1 ≤ block)
+-- from so many bytes on what has landed is logged
+abbrev pub batch_of : Options → ℕ
+batch_of options = number_or DEFAULT_BATCH options.batch

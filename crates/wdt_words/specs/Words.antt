@@ -2,9 +2,15 @@
 use Rattle.std.specs.Prelude.{ℕ, ◌≤◌, Bool, false, not, ◌==◌, ◌&&◌, List, [], ◌∷◌, slice_get, Option, Some, None, option_map, if◌then◌else◌, codes}
 use Rattle.std.specs.Str.{bytes_eq}
 use Rattle.wdt_words.specs.Named.{PlainNamed}
-use Rattle.wdt_words.specs.Options.{block_of, options_of}
+use Rattle.wdt_units.specs.declared.limits.TheConstants.{MAX_BATCH, MAX_BLOCK, MAX_LANES}
+use Rattle.wdt_words.specs.Numbers.{IsWithin}
+use Rattle.wdt_words.specs.Options.{batch_of, block_of, lanes_of, options_of}
 use Rattle.wdt_words.specs.declared.command.Command.{Command}
 use Rattle.wdt_words.specs.declared.command.Command.TheVariants.{Rehearse, Plan, Log}
+use Rattle.wdt_words.specs.declared.command.Transfer.{Transfer}
+use Rattle.wdt_words.specs.declared.command.Transfer.TheVariants.{Copy}
+use Rattle.wdt_words.specs.declared.options.Form.{Form}
+use Rattle.wdt_words.specs.declared.options.Form.TheVariants as forms
 use Rattle.wdt_words.specs.declared.options.Options.{Options}
 
 -- a word that may name a folder: neither empty nor begun with `-`
@@ -20,15 +26,19 @@ rehearse_form [] = None
 rehearse_form (source ∷ []) = if is_name source then Some Rehearse else None
 rehearse_form (source ∷ other ∷ more) = None
 
+-- SRC DST, and options of the form
+abbrev pub folders_form : Form → List (List ℕ) → Option Options
+folders_form form [] = None
+folders_form form (source ∷ []) = None
+folders_form form (source ∷ dest ∷ options) = if is_name source && is_name dest then options_of form options else None
+
 -- a plan with these options
 abbrev pub plan_with : Options → Command
 plan_with options = Plan (block_of options)
 
 -- SRC DST, and options
 abbrev pub plan_form : List (List ℕ) → Option Command
-plan_form [] = None
-plan_form (source ∷ []) = None
-plan_form (source ∷ dest ∷ options) = if is_name source && is_name dest then option_map plan_with (options_of options) else None
+plan_form words = option_map plan_with (folders_form forms.Plan words)
 
 -- DST
 abbrev pub log_form : List (List ℕ) → Option Command
@@ -53,6 +63,31 @@ command_of (command ∷ words) = form_of command words
 abbrev pub HasBlock : Command → Type 0
 HasBlock (Plan block) = 1 ≤ block
 HasBlock other = Unit {0}
+
+-- ---- transfers
+
+-- a copy with these options
+abbrev pub copy_with : Options → Transfer
+copy_with options = Copy (lanes_of options) (block_of options) (batch_of options)
+
+-- SRC DST, and options
+abbrev pub copy_form : List (List ℕ) → Option Transfer
+copy_form words = option_map copy_with (folders_form forms.Copy words)
+
+-- the transfer that the words are, if they are a form of one
+unfoldable pub transfer_of : List (List ℕ) → Option Transfer
+transfer_of [] = None
+transfer_of (command ∷ words) = if bytes_eq command (codes "copy") then copy_form words else None
+
+-- the options of a transfer are within their limits
+pub record IsLimited (lanes block batch : ℕ) : Type 0 where
+  pub some_lanes : IsWithin 1 MAX_LANES lanes
+  pub some_bytes : IsWithin 1 MAX_BLOCK block
+  pub some_batch : IsWithin 1 MAX_BATCH batch
+
+-- the same of a transfer's own
+abbrev pub HasLimits : Transfer → Type 0
+HasLimits (Copy lanes block batch) = IsLimited lanes block batch
 
 -- ---- what a form names
 
@@ -81,6 +116,15 @@ dest_of words Log = word_at words 1
 abbrev pub named_by : List (List ℕ) → Command → PlainNamed
 named_by words command = record { source = source_of words command; dest = dest_of words command; host = []; port = 0; lanes = 1 }
 
+-- what the words name, as a form of a transfer
+abbrev pub named_in : List (List ℕ) → Transfer → PlainNamed
+named_in words (Copy lanes block batch) = record { source = word_at words 1; dest = word_at words 2; host = []; port = 0; lanes = lanes }
+
+-- the first, or else the other
+abbrev pub first_of : Option PlainNamed → Option PlainNamed → Option PlainNamed
+first_of None other = other
+first_of (Some named) other = Some named
+
 -- what the words name, where they are a form
 abbrev pub named_of : List (List ℕ) → Option PlainNamed
-named_of words = option_map (named_by words) (command_of words)
+named_of words = first_of (option_map (named_by words) (command_of words)) (option_map (named_in words) (transfer_of words))

@@ -1,11 +1,12 @@
 //! The forms of words.
 ghost use Rattle.std.specs.Result.{result_ok};
 ghost use Rattle.std.specs.Prelude.{◌≡◌, map, string_bytes, Err, IfOk, IfSome};
-ghost use Rattle.wdt_words.specs.Words.{command_of, is_name, log_form, plan_form, rehearse_form, HasBlock};
+ghost use Rattle.wdt_words.specs.Options.{AreWithin};
+ghost use Rattle.wdt_words.specs.Words.{command_of, copy_form, folders_form, is_name, log_form, plan_form, rehearse_form, transfer_of, HasBlock, HasLimits};
 
-use crate::command::Command;
+use crate::command::{Command, Transfer};
 use crate::misread::{Expected, Misread};
-use crate::options::read_options;
+use crate::options::{Form, Options, read_options};
 
 /// The command that the words are, or None where they are no form of one.
 pub fn command_of(words: &[String]) -> Option<Command>
@@ -54,14 +55,22 @@ fn plan_form(words: &[String]) -> Result<Command, Misread>
     ensures value { result_ok result ≡ plan_form (map string_bytes words.now) }
     ensures block { IfOk result HasBlock }
 {
+    match folders_form(Form::Plan, words) {
+        Ok(options) => Ok(Command::Plan {
+            block: options.block(),
+        }),
+        Err(misread) => Err(misread),
+    }
+}
+
+// The options behind SRC and DST.
+fn folders_form(form: Form, words: &[String]) -> Result<Options, Misread>
+    ensures value { result_ok result ≡ folders_form form (map string_bytes words.now) }
+    ensures within { IfOk result AreWithin }
+{
     match words {
         [source, dest, options @ ..] if is_name(source.as_str()) && is_name(dest.as_str()) => {
-            match read_options(options) {
-                Ok(options) => Ok(Command::Plan {
-                    block: options.block(),
-                }),
-                Err(misread) => Err(misread),
-            }
+            read_options(form, options)
         }
         [source, more @ ..] if is_name(source.as_str()) => wrong(more.len(), Expected::Dest),
         _ => wrong(words.len(), Expected::Source),
@@ -79,7 +88,47 @@ fn log_form(words: &[String]) -> Result<Command, Misread>
     }
 }
 
-fn wrong(left: usize, expected: Expected) -> Result<Command, Misread>
+/// The transfer that the words are, or None where they are no form of one.
+pub fn transfer_of(words: &[String]) -> Option<Transfer>
+    ensures value { result ≡ transfer_of (map string_bytes words.now) }
+    ensures limits { IfSome result HasLimits }
+{
+    match read_transfer(words) {
+        Ok(transfer) => Some(transfer),
+        Err(_) => None,
+    }
+}
+
+/// The transfer that the words are, or the first that is wrong where they are no form of one.
+#[tactic(auto, unfolding(crate::specs::Words::transfer_of))]
+pub fn read_transfer(words: &[String]) -> Result<Transfer, Misread>
+    ensures value { result_ok result ≡ transfer_of (map string_bytes words.now) }
+    ensures limits { IfOk result HasLimits }
+{
+    let [command, words @ ..] = words else {
+        return wrong(0, Expected::Command);
+    };
+    if command.as_str() == "copy" {
+        return copy_form(words);
+    }
+    wrong(words.len().saturating_add(1), Expected::Command)
+}
+
+fn copy_form(words: &[String]) -> Result<Transfer, Misread>
+    ensures value { result_ok result ≡ copy_form (map string_bytes words.now) }
+    ensures limits { IfOk result HasLimits }
+{
+    match folders_form(Form::Copy, words) {
+        Ok(options) => Ok(Transfer::Copy {
+            lanes: options.lanes(),
+            block: options.block(),
+            batch: options.batch(),
+        }),
+        Err(misread) => Err(misread),
+    }
+}
+
+fn wrong<C>(left: usize, expected: Expected) -> Result<C, Misread>
     ensures { result ≡ Err (record { left = left; expected = expected }) }
 {
     Err(Misread { left, expected })

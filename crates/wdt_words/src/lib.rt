@@ -1,9 +1,9 @@
-//! The words that a process is started with: which command they are, and what they name.
+//! The words that a process is started with: which command or transfer they are, and what they name.
 //!
-//! `read_words` reads them by hand: a command's name, the folders that it takes, and its options. An
-//! option is a name with its value as the next word; options stand in any order behind the folders, and
-//! each at most once. Words that are no form of a command are answered with the first that is wrong and
-//! what was expected there.
+//! `read_words` and `read_transfer` read them by hand: a command's name, the folders that it takes, and
+//! its options. An option is a name with its value as the next word; options stand in any order behind
+//! the folders, and each at most once. Words that are no form of it are answered with the first that is
+//! wrong and what was expected there.
 #![tactic(auto)]
 
 mod command;
@@ -15,8 +15,8 @@ mod options;
 #[cfg(test)]
 mod tests;
 
-pub use command::Command;
-pub use forms::{command_of, read_words};
+pub use command::{Command, Transfer};
+pub use forms::{command_of, read_transfer, read_words, transfer_of};
 pub use misread::{Expected, Misread};
 pub use named::{Named, folders_of};
 pub use options::Options;

@@ -1,9 +1,9 @@
 //! What a form of a command names.
 ghost use Rattle.std.specs.Prelude.{◌≡◌, map, string_bytes, IfOk};
-ghost use Rattle.wdt_words.specs.Words.{named_by, named_of, word_at};
+ghost use Rattle.wdt_words.specs.Words.{named_by, named_in, named_of, word_at};
 
-use crate::command::Command;
-use crate::forms::command_of;
+use crate::command::{Command, Transfer};
+use crate::forms::{command_of, transfer_of};
 use std::alloc::{AllocError, Global};
 use std::marker::Model;
 use wdt_units::NoMemory;
@@ -33,21 +33,25 @@ impl Model for Named {
     ghost invariant = { λ _. Unit {0} };
 }
 
-/// What the words name, or None exactly where they are no form of a command.
+/// What the words name, or None exactly where they are no form of a command or transfer.
 pub fn folders_of(alloc: Global, words: &[String]) -> Result<Option<Named>, NoMemory>
     ensures { IfOk result (λ found. found ≡ named_of (map string_bytes words.now)) }
 {
-    match command_of(words) {
-        Some(command) => match make_named(alloc, words, command) {
-            Ok(named) => Ok(Some(named)),
-            Err(_) => Err(NoMemory),
+    let made = match command_of(words) {
+        Some(command) => made_by(alloc, words, command),
+        None => match transfer_of(words) {
+            Some(transfer) => made_in(alloc, words, transfer),
+            None => return Ok(None),
         },
-        None => Ok(None),
+    };
+    match made {
+        Ok(named) => Ok(Some(named)),
+        Err(_) => Err(NoMemory),
     }
 }
 
 // What the words of a command name.
-fn make_named(alloc: Global, words: &[String], command: Command) -> Result<Named, AllocError>
+fn made_by(alloc: Global, words: &[String], command: Command) -> Result<Named, AllocError>
     ensures { IfOk result (λ named. named ≡ named_by (map string_bytes words.now) command) }
 {
     let (source, dest) = match command {
@@ -61,6 +65,20 @@ fn make_named(alloc: Global, words: &[String], command: Command) -> Result<Named
         host: String::new(alloc),
         port: 0,
         lanes: 1,
+    })
+}
+
+// What the words of a transfer name.
+fn made_in(alloc: Global, words: &[String], transfer: Transfer) -> Result<Named, AllocError>
+    ensures { IfOk result (λ named. named ≡ named_in (map string_bytes words.now) transfer) }
+{
+    let Transfer::Copy { lanes, .. } = transfer;
+    Ok(Named {
+        source: String::from_str(alloc, word(words, 1))?,
+        dest: String::from_str(alloc, word(words, 2))?,
+        host: String::new(alloc),
+        port: 0,
+        lanes,
     })
 }
 

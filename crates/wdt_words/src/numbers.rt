@@ -1,13 +1,13 @@
 //! Numbers within limits.
 ghost use Rattle.std.specs.Prelude.{◌≡◌, ◌≤◌, IfSome};
-ghost use Rattle.wdt_words.specs.Numbers.{number_in, within};
+ghost use Rattle.wdt_words.specs.Numbers.{number_in, within, IsWithin};
 
 use wdt_units::number_of;
 
 // The number that the word spells, where it is within the limits.
 pub fn number_in(low: u32, high: u32, word: &str) -> Option<u32>
     ensures value { result ≡ number_in low high word.now }
-    ensures least { IfSome result (λ number. low ≤ number) }
+    ensures within { IfSome result (IsWithin low high) }
 {
     match number_of(word) {
         Some(number) => within(low, high, number),
@@ -17,7 +17,7 @@ pub fn number_in(low: u32, high: u32, word: &str) -> Option<u32>
 
 fn within(low: u32, high: u32, number: u64) -> Option<u32>
     ensures value { result ≡ within low high number }
-    ensures least { IfSome result (λ number. low ≤ number) }
+    ensures within { IfSome result (IsWithin low high) }
 {
     if u64::from(low) <= number && number <= u64::from(high) {
         Some(number as u32)

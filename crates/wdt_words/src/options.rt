@@ -1,66 +1,171 @@
 //! The options of a command.
 ghost use Rattle.std.specs.Result.{result_ok};
 ghost use Rattle.std.specs.Prelude.{◌≡◌, ◌≤◌, map, string_bytes, IfOk, IfSome, Some};
-ghost use Rattle.wdt_words.specs.Options.{block_of, block_once, option_with, options_from, options_of, HasPositive};
+ghost use Rattle.wdt_words.specs.Options.{batch_of, block_of, greatest_of, lanes_of, option_once, option_with, options_from, options_of, setting_of, value_of, with_value, AreWithin, IsValueOf};
+ghost use Rattle.wdt_words.specs.Numbers.{IsWithin};
 
 use crate::misread::{Expected, Misread};
 use crate::numbers::number_in;
-use wdt_units::{DEFAULT_BLOCK, MAX_BLOCK};
+use wdt_units::{DEFAULT_BATCH, DEFAULT_BLOCK, MAX_BATCH, MAX_BLOCK, MAX_LANES};
 
-/// The options that words give, each at most once.
+/// How many lanes a transfer has where nothing else is said.
+pub const DEFAULT_LANES: u8 = 4;
+
+/// A form of words that takes options.
+#[derive(Clone, Copy, Debug, PartialEq, Eq)]
+pub enum Form {
+    /// It takes `--block`.
+    Plan,
+    /// It takes `--lanes`, `--block` and `--batch`.
+    Copy,
+}
+
+/// An option.
+#[derive(Clone, Copy, Debug, PartialEq, Eq)]
+pub enum Setting {
+    Lanes,
+    Block,
+    Batch,
+}
+
+impl Setting {
+    // The greatest value. The least is 1.
+    fn greatest(self) -> u32
+        ensures { result ≡ greatest_of self }
+    {
+        match self {
+            Setting::Lanes => u32::from(MAX_LANES),
+            Setting::Block => MAX_BLOCK,
+            Setting::Batch => MAX_BATCH,
+        }
+    }
+}
+
+/// The options that words give, each at most once. One that isn't given is None.
 #[derive(Clone, Copy, Debug, PartialEq, Eq)]
 pub struct Options {
-    /// The most bytes of a block, 1 to 67,108,864, where it is given.
+    /// How many lanes, 1 to 16.
+    pub lanes: Option<u32>,
+    /// The most bytes of a block, 1 to 67,108,864.
     pub block: Option<u32>,
+    /// From so many bytes on what has landed is logged, 1 to 1,073,741,824.
+    pub batch: Option<u32>,
 }
 
 impl Options {
+    const NONE: Options = Options {
+        lanes: None,
+        block: None,
+        batch: None,
+    };
+
+    /// How many lanes.
+    pub fn lanes(&self) -> u8
+        requires { AreWithin self.now }
+        ensures value { result ≡ lanes_of self.now }
+        ensures within { IsWithin 1 MAX_LANES result }
+    {
+        match self.lanes {
+            Some(lanes) => lanes as u8,
+            None => DEFAULT_LANES,
+        }
+    }
+
     /// The most bytes of a block.
     pub fn block(&self) -> u32
-        requires { HasPositive self.now }
+        requires { AreWithin self.now }
         ensures value { result ≡ block_of self.now }
-        ensures positive { 1 ≤ result }
+        ensures within { IsWithin 1 MAX_BLOCK result }
     {
         match self.block {
             Some(block) => block,
             None => DEFAULT_BLOCK,
         }
     }
+
+    /// From so many bytes on what has landed is logged.
+    pub fn batch(&self) -> u32
+        requires { AreWithin self.now }
+        ensures value { result ≡ batch_of self.now }
+        ensures within { IsWithin 1 MAX_BATCH result }
+    {
+        match self.batch {
+            Some(batch) => batch,
+            None => DEFAULT_BATCH,
+        }
+    }
+
+    // The value of an option, where it is given.
+    fn value(&self, setting: Setting) -> Option<u32>
+        ensures { result ≡ value_of self.now setting }
+    {
+        match setting {
+            Setting::Lanes => self.lanes,
+            Setting::Block => self.block,
+            Setting::Batch => self.batch,
+        }
+    }
+
+    // The same with a value for an option.
+    fn with(self, setting: Setting, value: u32) -> Options
+        requires before { AreWithin self }
+        requires value { IsValueOf setting value }
+        ensures value { result ≡ with_value self setting value }
+        ensures within { AreWithin result }
+    {
+        let given = Some(value);
+        match setting {
+            Setting::Lanes => Options {
+                lanes: given,
+                ..self
+            },
+            Setting::Block => Options {
+                block: given,
+                ..self
+            },
+            Setting::Batch => Options {
+                batch: given,
+                ..self
+            },
+        }
+    }
 }
 
-/// The options that words are.
-pub fn read_options(words: &[String]) -> Result<Options, Misread>
-    ensures value { result_ok result ≡ options_of (map string_bytes words.now) }
-    ensures positive { IfOk result HasPositive }
+/// The options of a form that words are.
+pub fn read_options(form: Form, words: &[String]) -> Result<Options, Misread>
+    ensures value { result_ok result ≡ options_of form (map string_bytes words.now) }
+    ensures within { IfOk result AreWithin }
 {
-    options_from(Options { block: None }, words)
+    options_from(form, Options::NONE, words)
 }
 
 // The options that were read, and those that the words are.
-fn options_from(read: Options, words: &[String]) -> Result<Options, Misread>
-    requires { HasPositive read }
-    ensures value { result_ok result ≡ options_from (Some read) (map string_bytes words.now) }
-    ensures positive { IfOk result HasPositive }
+fn options_from(form: Form, read: Options, words: &[String]) -> Result<Options, Misread>
+    requires { AreWithin read }
+    ensures value { result_ok result ≡ options_from form (Some read) (map string_bytes words.now) }
+    ensures within { IfOk result AreWithin }
 {
     match words {
         [] => Ok(read),
-        [name] => Err(Misread {
-            left: if name.as_str() == "--block" { 0 } else { 1 },
-            expected: without_value(name.as_str()),
-        }),
-        [name, value, more @ ..] => match option_with(read, name.as_str(), value.as_str()) {
-            Ok(read) => options_from(read, more),
+        [name] => Err(without_value(form, name.as_str())),
+        [name, value, more @ ..] => match option_with(form, read, name.as_str(), value.as_str()) {
+            Ok(read) => options_from(form, read, more),
             Err(expected) => Err(misread_at(words.len(), expected)),
         },
     }
 }
 
-// What was expected where an option is the last word.
-fn without_value(name: &str) -> Expected {
-    if name == "--block" {
-        number_of_block()
-    } else {
-        Expected::Setting
+// What is wrong where an option is the last word: its value is missing, or it is none of the form.
+fn without_value(form: Form, name: &str) -> Misread {
+    match setting_of(form, name) {
+        Some(setting) => Misread {
+            left: 0,
+            expected: number_of(setting),
+        },
+        None => Misread {
+            left: 1,
+            expected: Expected::Setting,
+        },
     }
 }
 
@@ -75,33 +180,54 @@ fn misread_at(left: usize, expected: Expected) -> Misread {
     }
 }
 
-fn number_of_block() -> Expected {
+fn number_of(setting: Setting) -> Expected {
     Expected::Number {
         least: 1,
-        greatest: MAX_BLOCK,
+        greatest: setting.greatest(),
     }
+}
+
+// The option of this name, if the form takes one.
+fn setting_of(form: Form, name: &str) -> Option<Setting>
+    ensures { result ≡ setting_of form name.now }
+{
+    if name == "--block" {
+        return Some(Setting::Block);
+    }
+    if form == Form::Plan {
+        return None;
+    }
+    if name == "--lanes" {
+        return Some(Setting::Lanes);
+    }
+    if name == "--batch" {
+        return Some(Setting::Batch);
+    }
+    None
 }
 
 // The options that were read, and one more.
-fn option_with(read: Options, name: &str, value: &str) -> Result<Options, Expected>
-    ensures value { result_ok result ≡ option_with read name.now value.now }
-    ensures positive { IfOk result HasPositive }
+fn option_with(form: Form, read: Options, name: &str, value: &str) -> Result<Options, Expected>
+    requires { AreWithin read }
+    ensures value { result_ok result ≡ option_with form read name.now value.now }
+    ensures within { IfOk result AreWithin }
 {
-    if name == "--block" {
-        return block_once(read.block, number_in(1, MAX_BLOCK, value));
+    match setting_of(form, name) {
+        Some(setting) => option_once(read, setting, number_in(1, setting.greatest(), value)),
+        None => Err(Expected::Setting),
     }
-    Err(Expected::Setting)
 }
 
-// A block size that is given for the first time.
-fn block_once(read: Option<u32>, given: Option<u32>) -> Result<Options, Expected>
-    requires { IfSome given (λ block. 1 ≤ block) }
-    ensures value { result_ok result ≡ block_once read given }
-    ensures positive { IfOk result HasPositive }
+// A value that is given for the first time.
+fn option_once(read: Options, setting: Setting, given: Option<u32>) -> Result<Options, Expected>
+    requires read { AreWithin read }
+    requires given { IfSome given (IsValueOf setting) }
+    ensures value { result_ok result ≡ option_once read setting given }
+    ensures within { IfOk result AreWithin }
 {
-    match (read, given) {
-        (None, Some(block)) => Ok(Options { block: Some(block) }),
-        (None, None) => Err(number_of_block()),
+    match (read.value(setting), given) {
+        (None, Some(value)) => Ok(read.with(setting, value)),
+        (None, None) => Err(number_of(setting)),
         (Some(_), _) => Err(Expected::Once),
     }
 }

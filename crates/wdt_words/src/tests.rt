@@ -1,11 +1,24 @@
 //! What no clause says: which word is told to be wrong, and that memory is enough.
-use crate::{Command, Expected, Misread, command_of, folders_of, read_words};
+use crate::{
+    Command, Expected, Misread, Transfer, command_of, folders_of, read_transfer, read_words,
+    transfer_of,
+};
 use std::alloc::Global;
 use std::test::Fail;
 
 const NUMBER: Expected = Expected::Number {
     least: 1,
     greatest: 67_108_864,
+};
+
+const LANES: Expected = Expected::Number {
+    least: 1,
+    greatest: 16,
+};
+
+const BATCH: Expected = Expected::Number {
+    least: 1,
+    greatest: 1_073_741_824,
 };
 
 fn words_of(alloc: Global, texts: &[&str]) -> Result<Vec<String>, Fail> {
@@ -51,6 +64,54 @@ fn the_first_wrong_word_is_told(rt: HostRuntime) -> Result<(), Fail> {
         let words = words_of(rt.alloc(), texts)?;
         assert_eq!(rt; read_words(&words), Err(Misread { left, expected }));
     }
+    Ok(())
+}
+
+#[test]
+fn the_first_wrong_word_of_a_copy_is_told(rt: HostRuntime) -> Result<(), Fail> {
+    let forms: [(&[&str], usize, Expected); 9] = [
+        (&["plan", "a", "b"], 3, Expected::Command),
+        (&["copy"], 0, Expected::Source),
+        (&["copy", "a", "--lanes"], 1, Expected::Dest),
+        (&["copy", "a", "b", "--lanes"], 0, LANES),
+        (&["copy", "a", "b", "--lanes", "17"], 1, LANES),
+        (&["copy", "a", "b", "--batch", "1073741825"], 1, BATCH),
+        (&["copy", "a", "b", "--lanes", "0"], 1, LANES),
+        (
+            &["copy", "a", "b", "--batch", "1", "--batch", "1"],
+            2,
+            Expected::Once,
+        ),
+        (&["copy", "a", "b", "--script"], 1, Expected::Setting),
+    ];
+    for (texts, left, expected) in forms {
+        let words = words_of(rt.alloc(), texts)?;
+        assert_eq!(rt; read_transfer(&words), Err(Misread { left, expected }));
+    }
+    Ok(())
+}
+
+#[test]
+fn a_copy_has_lanes_of_its_own(rt: HostRuntime) -> Result<(), Fail> {
+    let words = words_of(
+        rt.alloc(),
+        &["copy", "a", "b", "--batch", "1", "--lanes", "16"],
+    )?;
+    let (lanes, block, batch) = (16, 16_777_216, 1);
+    assert_eq!(rt;
+        transfer_of(&words),
+        Some(Transfer::Copy {
+            lanes,
+            block,
+            batch
+        })
+    );
+    let words = words_of(rt.alloc(), &["copy", "a", "b"])?;
+    let Some(named) = folders_of(rt.alloc(), &words)? else {
+        return Err(Fail::new("the words are no form"));
+    };
+    assert_eq!(rt; named.dest.as_str(), "b");
+    assert_eq!(rt; named.lanes, 4);
     Ok(())
 }
 

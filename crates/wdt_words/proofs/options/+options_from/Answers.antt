@@ -11,18 +11,18 @@ returns-in-Ok-clause-value t c =
     let more : List (List ℕ) = map string_bytes (take (length c.args.words.now - 2) (drop 2 c.args.words.now)) in
     let name = c.as_str-in-len2-up.ensures.value in
     let value = c.as_str-in-len2-up-2.ensures.value in
-    let added : option_with c.args.read (string_bytes c.name-item-2.result) (string_bytes c.value-item.result) ≡ Some c.in-Ok.read
-    = sym (ap (λ (n : List ℕ). option_with c.args.read n (string_bytes c.value-item.result)) name)
-    ∙ (sym (ap (λ (v : List ℕ). option_with c.args.read c.as_str-in-len2-up.result.now v) value) ∙ (sym c.option_with.ensures.value ∙ ap result_ok c.in-Ok.is)) in
+    let added : option_with c.args.form c.args.read (string_bytes c.name-item-2.result) (string_bytes c.value-item.result) ≡ Some c.in-Ok.read
+    = sym (ap (λ (n : List ℕ). option_with c.args.form c.args.read n (string_bytes c.value-item.result)) name)
+    ∙ (sym (ap (λ (v : List ℕ). option_with c.args.form c.args.read c.as_str-in-len2-up.result.now v) value) ∙ (sym c.option_with.ensures.value ∙ ap result_ok c.in-Ok.is)) in
     c.options_from.ensures.value
-    ∙ sym (option-taken c.args.read c.args.words.now c.name-item-2.result c.value-item.result c.in-len2-up.len_at_least c.name-item-2.is c.value-item.is ∙ ap (λ (o : Option Options). options_from o more) added)
+    ∙ sym (option-taken c.args.form c.args.read c.args.words.now c.name-item-2.result c.value-item.result c.in-len2-up.len_at_least c.name-item-2.is c.value-item.is ∙ ap (λ (o : Option Options). options_from c.args.form o more) added)
 
 pub returns-in-Err-clause-value : goal.returns-in-Err-clause-value
 returns-in-Err-clause-value t c =
     let more : List (List ℕ) = map string_bytes (take (length c.args.words.now - 2) (drop 2 c.args.words.now)) in
     let name = c.as_str-in-len2-up.ensures.value in
     let value = c.as_str-in-len2-up-2.ensures.value in
-    let added : option_with c.args.read (string_bytes c.name-item-2.result) (string_bytes c.value-item.result) ≡ None
-    = sym (ap (λ (n : List ℕ). option_with c.args.read n (string_bytes c.value-item.result)) name)
-    ∙ (sym (ap (λ (v : List ℕ). option_with c.args.read c.as_str-in-len2-up.result.now v) value) ∙ (sym c.option_with.ensures.value ∙ ap result_ok c.in-Err.is)) in
-    sym (option-taken c.args.read c.args.words.now c.name-item-2.result c.value-item.result c.in-len2-up.len_at_least c.name-item-2.is c.value-item.is ∙ ap (λ (o : Option Options). options_from o more) added)
+    let added : option_with c.args.form c.args.read (string_bytes c.name-item-2.result) (string_bytes c.value-item.result) ≡ None
+    = sym (ap (λ (n : List ℕ). option_with c.args.form c.args.read n (string_bytes c.value-item.result)) name)
+    ∙ (sym (ap (λ (v : List ℕ). option_with c.args.form c.args.read c.as_str-in-len2-up.result.now v) value) ∙ (sym c.option_with.ensures.value ∙ ap result_ok c.in-Err.is)) in
+    sym (option-taken c.args.form c.args.read c.args.words.now c.name-item-2.result c.value-item.result c.in-len2-up.len_at_least c.name-item-2.is c.value-item.is ∙ ap (λ (o : Option Options). options_from c.args.form o more) added)

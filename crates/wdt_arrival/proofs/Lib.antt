@@ -1,0 +1,4 @@
+pub mod Whole
+pub mod Counting
+pub mod Covering
+pub mod Arriving

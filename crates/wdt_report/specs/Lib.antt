@@ -1,0 +1,4 @@
+pub mod Lines
+pub mod Received
+pub mod Sent
+pub mod Tables

@@ -1,0 +1,20 @@
+-- The seven lines of a report.
+use Rattle.std.specs.Prelude.{ℕ, List, ◌++◌, length, sum_by, codes}
+use Rattle.std.specs.Fmt.{decimal}
+use Rattle.wdt_sender_fsm.specs.declared.events.SendEvent.{SendEvent}
+use Rattle.wdt_receiver_fsm.specs.declared.events.RecvEvent.{RecvEvent}
+use Rattle.wdt_report.specs.Received.{blocks_in, bytes_in, closed_in}
+use Rattle.wdt_report.specs.Sent.{connections_in, requeued_in}
+
+-- the lines of these seven numbers
+unfoldable pub seven_lines : (files blocks bytes connections requeued closed sessions : ℕ) → List ℕ
+seven_lines files blocks bytes connections requeued closed sessions =
+    codes "files " ++ decimal files ++ codes "\nblocks " ++ decimal blocks ++ codes "\nbytes " ++ decimal bytes ++ codes "\nconnections " ++ decimal connections
+    ++ codes "\nrequeued " ++ decimal requeued ++ codes "\nclosed " ++ decimal closed ++ codes "\nsessions " ++ decimal sessions ++ codes "\n"
+
+-- The report of a copy of so many files, by the histories of both ends in each session: how many blocks landed
+-- and what bytes they have, how many connections were made, how many blocks were taken off lists to be sent
+-- again, how many lanes were closed, and how many sessions there were.
+abbrev pub copy_text : ℕ → List (List SendEvent) → List (List RecvEvent) → List ℕ
+copy_text files sent received =
+    seven_lines files (sum_by blocks_in received) (sum_by bytes_in received) (sum_by connections_in sent) (sum_by requeued_in sent) (sum_by closed_in received) (length sent)
