@@ -26,7 +26,7 @@ use Rattle.wdt_log.specs.OpenLog.{OpenLog, RestsIn}
 use Rattle.wdt_writer.specs.PlainWriter.{PlainWriter}
 use Rattle.wdt_dock.specs.Desk.{AreBooks, plain_of}
 use Rattle.wdt_dock.specs.Dock.{IsDock}
-use Rattle.wdt_dock.specs.End.{EndView}
+use Rattle.wdt_receiver_fsm.specs.End.{EndView}
 use Rattle.wdt_dock.proofs.Choices.{desk_after, logged_stays}
 use Rattle.wdt_dock.proofs.Keeping.{Stays}
 

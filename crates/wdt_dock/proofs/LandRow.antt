@@ -30,7 +30,7 @@ use Rattle.wdt_receiver_fsm.specs.Turn.{Step, reads, tells_failure}
 use Rattle.wdt_dock.specs.Booked.{IsBooked}
 use Rattle.wdt_dock.specs.Desk.{AreBooks, IsDesk, IsWritten, books_of, part_by, part_in, plain_of}
 use Rattle.wdt_dock.specs.DockView.{HasLostDisk}
-use Rattle.wdt_dock.specs.End.{Books, EndView, lane_in, plain_with}
+use Rattle.wdt_receiver_fsm.specs.End.{Books, EndView, lane_in, plain_with}
 use Rattle.wdt_dock.specs.Landing.{IsWholeOf}
 use Rattle.wdt_dock.proofs.Choices.{kept_plain, logged_stays, lost_answer}
 use Rattle.wdt_dock.proofs.Keeping.{LosesNone, loses_lane, stays_failed, stays_going, stays_more}

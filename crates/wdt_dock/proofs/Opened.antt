@@ -33,7 +33,7 @@ use Rattle.wdt_receiver_fsm.specs.Receiver.{IsReceiver}
 use Rattle.wdt_dock.specs.Desk.{IsDesk, part_by}
 use Rattle.wdt_dock.specs.Dock.{IsDock}
 use Rattle.wdt_dock.specs.DockGood.{DockGood, HasPart, IfKnown, IsTrees, StandsWithin}
-use Rattle.wdt_dock.specs.End.{lane_in, new_end}
+use Rattle.wdt_receiver_fsm.specs.End.{lane_in, new_end}
 
 -- ---- known files of a log
 

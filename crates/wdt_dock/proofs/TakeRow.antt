@@ -33,7 +33,7 @@ use Rattle.wdt_receiver_fsm.proofs.ForCallers.{ends_as, piece_broken, piece_end_
 use Rattle.wdt_dock.specs.Desk.{AreBooks, IsDesk, IsWritten, books_of, part_by, part_in, plain_of}
 use Rattle.wdt_dock.specs.DockGood.{DockGood, GoodReads, HasPart, HasPartOf, IsPieceOf, StandsWithin}
 use Rattle.wdt_dock.specs.DockView.{HasLostDisk}
-use Rattle.wdt_dock.specs.End.{Books, EndView, lane_in, plain_with}
+use Rattle.wdt_receiver_fsm.specs.End.{Books, EndView, lane_in, plain_with}
 use Rattle.wdt_dock.specs.Landing.{IsWholeOf}
 use Rattle.wdt_dock.proofs.Choices.{desk_after, lost_answer}
 use Rattle.wdt_dock.proofs.Keeping.{LosesNone, Stays, lane_here, lane_other, loses_lane, stays_failed, stays_going, stays_more}

@@ -27,7 +27,7 @@ use Rattle.wdt_dock.specs.declared.opening.DockFail.{DockFail}
 use Rattle.wdt_dock.specs.declared.opening.DockFail.TheVariants as opening
 use Rattle.wdt_dock.specs.Desk.{IsAtRest, IsDesk, plain_of}
 use Rattle.wdt_dock.specs.DockView.{DockView, HasLostDisk}
-use Rattle.wdt_dock.specs.End.{EndView}
+use Rattle.wdt_receiver_fsm.specs.End.{EndView}
 
 -- ---- what hangs together
 

@@ -18,13 +18,12 @@ ghost use Rattle.wdt_dock.specs.Beginning.{IsRefused, books_with, starts};
 ghost use Rattle.wdt_dock.specs.Desk.{IsAtRest, IsDesk, plain_of};
 ghost use Rattle.wdt_dock.specs.DockGood.{DockGood};
 ghost use Rattle.wdt_dock.specs.DockView.{LosesDisk, TurnRan, Turns};
-ghost use Rattle.wdt_dock.specs.End.{Books, plain_with};
-ghost use Rattle.wdt_dock.specs.declared.end.TheConstants.{STEP_ENTRIES};
+ghost use Rattle.wdt_receiver_fsm.specs.End.{Books, plain_with};
+ghost use Rattle.wdt_receiver_fsm.specs.declared.end.TheConstants.{STEP_ENTRIES};
 
-use crate::end::RecvEnd;
 use wdt_depot::Depot;
 use wdt_log::Log;
-use wdt_receiver_fsm::RecvAct;
+use wdt_receiver_fsm::{RecvAct, RecvEnd};
 use wdt_sender_fsm::{EndAnswer, PeerKind};
 use wdt_units::{Block, Header, Lane, MAX_BLOCKS, NoMemory};
 use wdt_writer::{WriteFail, Writer};

@@ -21,7 +21,6 @@ ghost use Rattle.wdt_dock.specs.Landed.{AllLogged, EachLogged};
 
 mod stepping;
 
-use crate::end::RecvEnd;
 use crate::flushing::{FlushFail, flush};
 use crate::opening::{DockFail, of_log, parts_of};
 use crate::wanting::wants;
@@ -29,7 +28,7 @@ use std::alloc::Global;
 use std::marker::Model;
 use wdt_depot::Depot;
 use wdt_log::Log;
-use wdt_receiver_fsm::{RecvEvent, RecvState, batches_add_up, receivers_stay_receivers};
+use wdt_receiver_fsm::{RecvEnd, RecvEvent, RecvState, batches_add_up, receivers_stay_receivers};
 use wdt_sender_fsm::EndAnswer;
 use wdt_units::{Lane, MAX_LANES, Name, NoMemory};
 use wdt_writer::Writer;

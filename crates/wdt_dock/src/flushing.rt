@@ -13,13 +13,12 @@ ghost use Rattle.wdt_dock.specs.Dock.{IsDock, RanFlush};
 ghost use Rattle.wdt_dock.specs.DockGood.{DockGood};
 ghost use Rattle.wdt_dock.specs.DockView.{HasLostDisk};
 
-use crate::end::RecvEnd;
 use crate::logging::log_all;
 use std::alloc::Global;
 use thiserror::Error;
 use wdt_depot::Depot;
 use wdt_log::{Log, LogFail};
-use wdt_receiver_fsm::batches_add_up;
+use wdt_receiver_fsm::{RecvEnd, batches_add_up};
 use wdt_sender_fsm::EndAnswer;
 use wdt_writer::Writer;
 

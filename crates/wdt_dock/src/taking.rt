@@ -10,20 +10,19 @@ ghost use Rattle.wdt_units.specs.declared.limits.TheConstants.{PIECE};
 ghost use Rattle.wdt_receiver_fsm.specs.PlainReceiver.{is_batch_full};
 ghost use Rattle.wdt_receiver_fsm.specs.ReceiverHistory.{past_of};
 ghost use Rattle.wdt_receiver_fsm.specs.Turn.{piece_plan};
-ghost use Rattle.wdt_dock.specs.declared.end.TheConstants.{STEP_ENTRIES};
+ghost use Rattle.wdt_receiver_fsm.specs.declared.end.TheConstants.{STEP_ENTRIES};
 ghost use Rattle.wdt_dock.specs.Desk.{IsAtRest, IsDesk, IsWritten, plain_of};
 ghost use Rattle.wdt_dock.specs.DockGood.{DockGood, IsPieceOf};
 ghost use Rattle.wdt_dock.specs.DockView.{LosesDisk, TurnRan, Turns};
-ghost use Rattle.wdt_dock.specs.End.{lane_in};
+ghost use Rattle.wdt_receiver_fsm.specs.End.{lane_in};
 ghost use Rattle.wdt_dock.specs.Landing.{IsWholeOf, land_plan};
 ghost use Rattle.wdt_log.specs.OpenLog.{OpenLog};
 
-use crate::end::RecvEnd;
 use crate::logging::log_all;
 use std::alloc::Global;
 use wdt_depot::Depot;
 use wdt_log::{Log, LogFail};
-use wdt_receiver_fsm::RecvAct;
+use wdt_receiver_fsm::{RecvAct, RecvEnd};
 use wdt_sender_fsm::EndAnswer;
 use wdt_units::{Lane, MAX_BLOCKS, NoMemory};
 use wdt_writer::{WriteFail, Writer};
@@ -142,5 +141,5 @@ fn land<D: Depot>(
 fn is_full(end: &RecvEnd, writer: &Writer) -> bool
     ensures { (log : OpenLog) → result ≡ is_batch_full (plain_of end.now log writer.now) }
 {
-    writer.unlogged_bytes() >= end.batch || writer.unlogged().len() >= MAX_BLOCKS as usize
+    writer.unlogged_bytes() >= end.batch() || writer.unlogged().len() >= MAX_BLOCKS as usize
 }

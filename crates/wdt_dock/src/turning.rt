@@ -15,19 +15,20 @@ ghost use Rattle.wdt_receiver_fsm.specs.Writes.{FitsPut};
 ghost use Rattle.wdt_dock.specs.Desk.{IsAtRest, IsDesk, plain_of};
 ghost use Rattle.wdt_dock.specs.DockGood.{DockGood, PutOf};
 ghost use Rattle.wdt_dock.specs.DockView.{LosesDisk, TurnRan, Turns};
-ghost use Rattle.wdt_dock.specs.End.{lane_in};
+ghost use Rattle.wdt_receiver_fsm.specs.End.{lane_in};
 ghost use Rattle.wdt_dock.specs.Turning.{IsTreesRow, MayGoOn};
 
 use crate::beginning::begin;
 use crate::choosing::choose;
 use crate::dropping::lose_connection;
-use crate::end::RecvEnd;
-use crate::idling::Idling;
+use crate::serving::{served, starved};
 use crate::taking::take;
 use std::alloc::Global;
 use wdt_depot::Depot;
 use wdt_log::Log;
-use wdt_receiver_fsm::{RecvAct, RecvIn, RecvRow, RecvState, row, steps_follow_their_rows};
+use wdt_receiver_fsm::{
+    Idling, RecvAct, RecvEnd, RecvIn, RecvRow, RecvState, row, steps_follow_their_rows,
+};
 use wdt_units::{Lane, NoMemory};
 use wdt_writer::Writer;
 
@@ -70,7 +71,7 @@ pub fn turn<D: Depot>(
     let row = row(end.lane(lane), input);
     match row {
         RecvRow::Over => Ok(RecvAct::Stop),
-        RecvRow::Starved { mute } => Ok(end.starved(lane, mute)),
+        RecvRow::Starved { mute } => Ok(starved(end, lane, mute)),
         row => {
             if end.has_failed() {
                 return Ok(end.give_up(lane, row.is_mute()));
@@ -173,6 +174,6 @@ fn serve<D: Depot>(
             end.prepare()?;
             choose(alloc, depot, log, writer, end, lane, Idling::Woken)
         }
-        row => end.served(alloc, lane, row),
+        row => served(alloc, end, lane, row),
     }
 }

@@ -14,6 +14,8 @@ use Rattle.wdt_receiver_fsm.specs.Plan.{EndsIn, Plan, PlanRan, calls, ends, run_
 use Rattle.wdt_receiver_fsm.specs.PlainReceiver.{PlainReceiver, goes, is_batch_full, lane_at}
 use Rattle.wdt_receiver_fsm.specs.Rows.{Piece, Row}
 use Rattle.wdt_receiver_fsm.specs.Turn.{Step, disk_fails, logs, logs_by, next_place, piece_by, piece_of, reads, reads_on, takes_piece}
+-- a result, from what holds of it otherwise
+pub use Rattle.wdt_receiver_fsm.proofs.Results.{if_ok}
 -- steps by their rows, and as outcomes
 pub use Rattle.wdt_receiver_fsm.proofs.RowSteps.{Chooses, chooses, failed_step, misspeaks_step, over_step, row_step, settled_step, short_told, starved_step}
 pub use Rattle.wdt_receiver_fsm.proofs.Comes.{end_comes}

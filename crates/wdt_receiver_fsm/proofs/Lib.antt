@@ -1,5 +1,6 @@
 mod Batching
 mod Comes
+mod Ending
 mod Entries
 mod Failing
 pub mod ForCallers
@@ -10,11 +11,13 @@ mod Keeps
 mod LaneLists
 mod Marking
 mod Receiving
+mod Results
 mod RowSteps
 mod Sets
 mod Sound
 mod Speaking
 mod Talking
+mod Telling
 mod Tallying
 mod Tellers
 mod Touching

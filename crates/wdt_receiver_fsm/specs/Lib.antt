@@ -1,8 +1,11 @@
 pub mod Acts
 pub mod Batched
 pub mod Causes
+pub mod End
+pub mod EndInside
 pub mod Frames
 pub mod Happened
+pub mod Idling
 pub mod Kept
 pub mod Legal
 pub mod Logging

@@ -15,7 +15,7 @@ use Rattle.wdt_dock.proofs.Begins.{begun_ran, begun_turns, limit_ran, limit_turn
 use Rattle.wdt_dock.proofs.Choices.{counts_none, desk_after}
 use Rattle.wdt_dock.proofs.Goodness.{told_stays}
 use Rattle.wdt_dock.proofs.Keeping.{Stays, not_lost}
-use Rattle.wdt_dock.proofs.Results.{if_ok}
+use Rattle.wdt_receiver_fsm.proofs.ForCallers.{if_ok}
 use Rattle.wdt_dock.proofs.Starts.{failed_counts, failed_desk, failed_good, fault_sound, fault_stays, is_err, leaves_failed, leaves_used, new_by, none_by, ok_disk, ok_not, plain_kept, started_desk, started_good, started_said, started_sound}
 use Rattle.wdt_dock.proofs.Waiting.{counts_same, same_behind}
 use Rattle.wdt_dock.proofs.beginning.begin.Goals as goal

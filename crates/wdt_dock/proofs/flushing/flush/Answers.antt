@@ -2,7 +2,7 @@ use Rattle.std.proofs.Common.{sym, ap, ◌∙◌, subst}
 use Rattle.std.proofs.lemmas.Bool.{both_ways}
 use Rattle.wdt_dock.specs.Desk.{plain_of}
 use Rattle.wdt_dock.specs.DockView.{HasLostDisk}
-use Rattle.wdt_dock.specs.End.{EndView}
+use Rattle.wdt_receiver_fsm.specs.End.{EndView}
 use Rattle.wdt_dock.proofs.Choices.{kept_plain, lost_answer, same_stays}
 use Rattle.wdt_dock.proofs.Flushed.{continues, logged_dock, same_logged}
 use Rattle.wdt_dock.proofs.Goodness.{booked, files_behind_are, told_after, told_lost}

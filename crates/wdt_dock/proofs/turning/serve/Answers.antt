@@ -8,7 +8,7 @@ use Rattle.wdt_receiver_fsm.specs.Turn.{block_plan, drops, turn_row}
 use Rattle.wdt_dock.specs.Desk.{books_of, plain_of}
 use Rattle.wdt_dock.specs.DockGood.{DockGood}
 use Rattle.wdt_dock.specs.DockView.{LosesDisk, TurnRan, Turns}
-use Rattle.wdt_dock.specs.End.{plain_with}
+use Rattle.wdt_receiver_fsm.specs.End.{plain_with}
 use Rattle.wdt_dock.specs.Serving.{is_of_files}
 use Rattle.wdt_dock.proofs.Quiet.{at_books, counts_still, dropped_loses, err_at, err_same, ok_at, plain_same, quiet_counts, quiet_desk, quiet_good, quiet_images, quiet_ran, quiet_rest, quiet_slips, quiet_turns, served_quiet, told_more}
 use Rattle.wdt_dock.proofs.turning.serve.Goals as goal
@@ -86,7 +86,7 @@ returns-in-Dropped-clause-counts g c =
 pub returns-in_default : goal.returns-in_default
 returns-in_default g c =
     let e = c.args.end.now in
-    let f = c.served.new.self in
+    let f = c.served.new.end in
     let log = c.args.log.now in
     let w = c.args.writer.now in
     let s = g.D.Depot.state c.args.depot.now in

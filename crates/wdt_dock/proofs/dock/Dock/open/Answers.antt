@@ -8,7 +8,7 @@ use Rattle.wdt_receiver_fsm.specs.Receiver.{IsReceiver}
 use Rattle.wdt_dock.specs.Desk.{plain_of}
 use Rattle.wdt_dock.specs.Dock.{IsDock}
 use Rattle.wdt_dock.specs.DockGood.{DockGood}
-use Rattle.wdt_dock.specs.End.{EndView, new_end}
+use Rattle.wdt_receiver_fsm.specs.End.{EndView, new_end}
 use Rattle.wdt_dock.proofs.Flushed.{fits_after}
 use Rattle.wdt_dock.proofs.Opened.{dock_opened, told_opened}
 use Rattle.wdt_dock.proofs.dock.Dock.open.Goals as goal
