@@ -1,3 +1,4 @@
+mod Answered
 mod Batching
 mod Comes
 mod Ending
@@ -9,13 +10,16 @@ mod Judged
 mod Keeping
 mod Keeps
 mod LaneLists
+mod Living
 mod Marking
+mod Parking
 mod Receiving
 mod Results
 mod RowSteps
 mod Sets
 mod Sound
 mod Speaking
+mod Stopping
 mod Talking
 mod Telling
 mod Tallying

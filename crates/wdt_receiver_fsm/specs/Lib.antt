@@ -1,4 +1,5 @@
 pub mod Acts
+pub mod Answered
 pub mod Batched
 pub mod Causes
 pub mod End
@@ -19,6 +20,7 @@ pub mod Receiver
 pub mod ReceiverHistory
 pub mod Rows
 pub mod Sets
+pub mod Stops
 pub mod Tallies
 pub mod Touches
 pub mod Turn

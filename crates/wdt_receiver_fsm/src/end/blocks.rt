@@ -41,7 +41,8 @@ impl RecvEnd {
         requires lane { lane.0 < length self.old.lanes }
         requires few { length (past_of self.old.history lane.0).landed < MAX_BLOCKS }
         requires room { 2 ≤ self.old.room }
-        ensures { (books : Books) → reads (goes (noted (noted (plain_with self.old books) (RecvEvent.Begin lane block ∷ [])) (RecvEvent.Land lane ∷ [])) lane.0 states.ReadNextCmd) ≡ (result, plain_with self.new books) }
+        ensures { (books : Books) → reads (goes (noted (noted (plain_with self.old books) (RecvEvent.Begin lane block ∷ [])) (RecvEvent.Land lane ∷ [])) lane.0 states.ReadNextCmd)
+            ≡ (result, plain_with self.new books) }
     {
         self.note(RecvEvent::Begin(lane, block));
         self.note(RecvEvent::Land(lane));

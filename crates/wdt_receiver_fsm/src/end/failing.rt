@@ -65,7 +65,8 @@ impl RecvEnd {
     /// The sender said what it may not say, and nothing else happened in the step.
     pub fn find_fault(&mut self, lane: Lane, kind: PeerKind) -> Result<RecvAct, NoMemory>
         requires { lane.0 < length self.old.lanes }
-        ensures ok { IfOk result (λ act. (books : Books) → tells_failure (failed (noted (plain_with self.old books) (RecvEvent.Peer lane kind ∷ [])) (answers.Peer kind)) lane ≡ (act, plain_with self.new books)) }
+        ensures ok { IfOk result (λ act. (books : Books) → tells_failure (failed (noted (plain_with self.old books) (RecvEvent.Peer lane kind ∷ [])) (answers.Peer kind)) lane
+            ≡ (act, plain_with self.new books)) }
         ensures err { OnErr result (IsSameEnd self.old self.new) }
     {
         self.prepare()?;
@@ -75,7 +76,8 @@ impl RecvEnd {
     /// The sender has failed: so does the end, and there is nothing to tell.
     pub fn aborted(&mut self, lane: Lane, code: u8) -> Result<RecvAct, NoMemory>
         requires { lane.0 < length self.old.lanes }
-        ensures ok { IfOk result (λ act. (books : Books) → leaves (failed (noted (plain_with self.old books) (RecvEvent.Abort lane code ∷ [])) (answers.Aborted code)) lane ≡ (act, plain_with self.new books)) }
+        ensures ok { IfOk result (λ act. (books : Books) → leaves (failed (noted (plain_with self.old books) (RecvEvent.Abort lane code ∷ [])) (answers.Aborted code)) lane
+            ≡ (act, plain_with self.new books)) }
         ensures err { OnErr result (IsSameEnd self.old self.new) }
     {
         self.prepare()?;

@@ -58,7 +58,8 @@ impl RecvEnd {
     // blocks have landed.
     fn greet(&mut self, lane: Lane, settings: Settings) -> Result<RecvAct, NoMemory>
         requires { lane.0 < length self.old.lanes }
-        ensures ok { IfOk result (λ act. (books : Books) → greets_by (meets (plain_with self.old books) lane settings) lane settings (end_of self.old.history).has_finish ≡ (act, plain_with self.new books)) }
+        ensures ok { IfOk result (λ act. (books : Books) → greets_by (meets (plain_with self.old books) lane settings) lane settings (end_of self.old.history).has_finish
+            ≡ (act, plain_with self.new books)) }
         ensures err { OnErr result (IsSameEnd self.old self.new) }
     {
         self.prepare()?;

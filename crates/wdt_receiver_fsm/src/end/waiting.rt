@@ -95,7 +95,8 @@ impl RecvEnd {
     // A lane comes to the choice of an end that fails, and it isn't noted.
     fn come_unnoted(&mut self, lane: Lane, way: Idling)
         requires { lane.0 < length self.old.lanes }
-        ensures plain { (books : Books) (answer : EndAnswer) → failed (record (idled way (plain_with self.old books) lane) { history = self.old.history }) answer ≡ failed (plain_with self.new books) answer }
+        ensures plain { (books : Books) (answer : EndAnswer) →
+            failed (record (idled way (plain_with self.old books) lane) { history = self.old.history }) answer ≡ failed (plain_with self.new books) answer }
         ensures room { self.new.room ≡ self.old.room }
         ensures lanes { length self.new.lanes ≡ length self.old.lanes }
     {
