@@ -19,9 +19,11 @@ mod Opened
 mod Parting
 mod Quiet
 mod Served
+mod Sparing
 mod Starts
 mod Stepped
 mod TakeRow
 mod Taken
 mod Waiting
+mod Wanted
 mod Written

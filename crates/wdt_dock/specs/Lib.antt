@@ -7,4 +7,5 @@ pub mod DockView
 pub mod Landed
 pub mod Serving
 pub mod Landing
+pub mod Sparing
 pub mod Turning

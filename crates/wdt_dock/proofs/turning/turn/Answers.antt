@@ -13,6 +13,8 @@ use Rattle.wdt_dock.specs.DockView.{TurnRan, Turns}
 use Rattle.wdt_dock.specs.Turning.{IsTreesRow}
 use Rattle.wdt_dock.proofs.MayServing.{row_tree}
 use Rattle.wdt_dock.proofs.Quiet.{given_quiet, quiet_counts, quiet_desk, quiet_good, quiet_images, quiet_ran, quiet_rest, quiet_slips, quiet_turns, starved_quiet, turn_is}
+use Rattle.wdt_dock.specs.Sparing.{IsOther, IsOtherRow}
+use Rattle.wdt_dock.proofs.Sparing.{row_other, spares_fewer, spares_same}
 use Rattle.wdt_dock.proofs.turning.turn.Goals as goal
 
 pub returns-in-Starved-clause-turns : goal.returns-in-Starved-clause-turns
@@ -135,6 +137,7 @@ returns-then-has_failed g c =
       images = λ T good. quiet_images T s;
       good = λ T put good. quiet_good e f log w s quiet T good;
       untouched = λ is. refl;
+      spares = spares_same (IsOther w.known (Given c.args.input.now)) w.files s.told;
       counts = quiet_counts e f log w s quiet;
       slips = λ T. quiet_slips (λ t. DockGood T r t.now) s;
     }
@@ -163,6 +166,14 @@ returns-else-has_failed g c =
       images = c.serve.ensures.images;
       good = λ T put good. c.serve.ensures.good T (subst (IsTreesRow T) fits (row_tree T r c.args.lane c.args.input.now put)) good;
       untouched = λ failed. absurd (both_ways (is_failure e.answer) sound failed);
+      spares = spares_fewer (IsOtherRow w.known row) (IsOther w.known (Given c.args.input.now)) w.files s.told s1.told
+          (λ path other. subst (λ (x : Row). IsOtherRow w.known x path) fits (row_other w.known r c.args.lane c.args.input.now path other)) c.serve.ensures.spares;
       counts = c.serve.ensures.counts;
       slips = c.serve.ensures.slips;
     }
+
+pub returns-in-Over-clause-spares : goal.returns-in-Over-clause-spares
+returns-in-Over-clause-spares g c = spares_same (IsOther c.args.writer.now.known (Given c.args.input.now)) c.args.writer.now.files (g.D.Depot.state c.args.depot.now).told
+
+pub returns-in-Starved-clause-spares : goal.returns-in-Starved-clause-spares
+returns-in-Starved-clause-spares g c = spares_same (IsOther c.args.writer.now.known (Given c.args.input.now)) c.args.writer.now.files (g.D.Depot.state c.args.depot.now).told
