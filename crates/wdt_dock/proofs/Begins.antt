@@ -30,7 +30,7 @@ use Rattle.wdt_receiver_fsm.specs.Turn.{Step, begins, block_plan, block_with, di
 use Rattle.wdt_receiver_fsm.proofs.ForCallers.{ends_as, plan_as, plan_broken, plan_ends, plan_well}
 use Rattle.wdt_dock.specs.Beginning.{IsRefused, told_fault}
 use Rattle.wdt_dock.specs.Desk.{IsDesk, part_by, plain_of}
-use Rattle.wdt_dock.specs.End.{EndView, lane_in}
+use Rattle.wdt_receiver_fsm.specs.End.{EndView, lane_in}
 use Rattle.wdt_dock.proofs.Finishing.{marks_are}
 
 -- ---- the blocks on their way

@@ -22,7 +22,7 @@ use Rattle.wdt_receiver_fsm.specs.PlainReceiver.{PlainReceiver, goes, lane_at, n
 use Rattle.wdt_receiver_fsm.specs.ReceiverHistory.{RecvPast, past_of, past_of-append}
 use Rattle.wdt_receiver_fsm.specs.Turn.{lands, reads, takes_piece}
 use Rattle.wdt_dock.specs.Desk.{AreBooks, IsDesk, IsWritten, part_by, plain_of}
-use Rattle.wdt_dock.specs.End.{EndView, lane_in}
+use Rattle.wdt_receiver_fsm.specs.End.{EndView, lane_in}
 use Rattle.wdt_dock.proofs.Keeping.{LosesNone, lane_here, lane_other, loses_lane, stays_going}
 use Rattle.wdt_dock.proofs.LandedBlock.{books_landed}
 use Rattle.wdt_dock.proofs.Landings.{desk_landed, part_beside, part_here}

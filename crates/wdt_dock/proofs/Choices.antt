@@ -20,9 +20,9 @@ use Rattle.wdt_sender_fsm.specs.declared.peers.PeerKind.{PeerKind}
 use Rattle.wdt_units.specs.declared.numbers.Lane.{Lane}
 use Rattle.wdt_dock.specs.Desk.{AreBooks, IsDesk, part_by, plain_of}
 use Rattle.wdt_dock.specs.DockView.{HasLostDisk}
-use Rattle.wdt_dock.specs.End.{EndView, lane_in}
-use Rattle.wdt_dock.specs.declared.idling.Idling.{Idling}
-use Rattle.wdt_dock.specs.Idling.{idled, row_of_way}
+use Rattle.wdt_receiver_fsm.specs.End.{EndView, lane_in}
+use Rattle.wdt_receiver_fsm.specs.declared.idling.Idling.{Idling}
+use Rattle.wdt_receiver_fsm.specs.Idling.{idled, row_of_way}
 use Rattle.wdt_dock.proofs.Finishing.{finish_loses, finish_stays, lost_is, lost_stays}
 use Rattle.wdt_dock.proofs.Keeping.{LosesNone, Stays, stays_more, stays_same}
 

@@ -22,11 +22,11 @@ use Rattle.wdt_receiver_fsm.specs.Turn.{Step, disk_fails, finish_plan, finishes,
 use Rattle.wdt_receiver_fsm.proofs.ForCallers.{ends_broken, ends_well, flush_broken, flush_well, landed_same, marks_follow, plan_ends}
 use Rattle.wdt_log.specs.OpenLog.{OpenLog}
 use Rattle.wdt_writer.specs.PlainWriter.{PlainWriter, marks}
-use Rattle.wdt_dock.specs.declared.idling.Idling.{Idling}
-use Rattle.wdt_dock.specs.declared.idling.Idling.TheVariants as ways
+use Rattle.wdt_receiver_fsm.specs.declared.idling.Idling.{Idling}
+use Rattle.wdt_receiver_fsm.specs.declared.idling.Idling.TheVariants as ways
 use Rattle.wdt_dock.specs.Desk.{AreBooks, plain_of}
-use Rattle.wdt_dock.specs.End.{EndView}
-use Rattle.wdt_dock.specs.Idling.{idled, idled_history, row_of_way}
+use Rattle.wdt_receiver_fsm.specs.End.{EndView}
+use Rattle.wdt_receiver_fsm.specs.Idling.{idled, idled_history, row_of_way}
 use Rattle.wdt_dock.proofs.Goodness.{files_behind_are}
 use Rattle.wdt_dock.proofs.Keeping.{LosesNone, Stays, loses_lane, stays_failed, stays_going, stays_lane, stays_more, stays_noted, stays_same}
 

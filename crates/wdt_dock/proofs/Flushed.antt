@@ -1,7 +1,8 @@
 -- What a flush leaves of a receiver's end.
 use Rattle.std.proofs.Common.{◌≡◌, inl, Bool, true, false, List, [], ◌∷◌, length, Option, Some, None, refl, sym, ap, ◌∙◌, subst, arith}
-use Rattle.std.specs.Prelude.{filter}
+use Rattle.std.specs.Prelude.{◌≤◌, filter}
 use Rattle.wdt_units.specs.declared.blocks.Block.{Block}
+use Rattle.wdt_units.specs.declared.limits.TheConstants.{MAX_BLOCKS}
 use Rattle.wdt_sender_fsm.specs.declared.answers.EndAnswer.TheVariants as answers
 use Rattle.wdt_sender_fsm.specs.Rules.{is_failure}
 use Rattle.wdt_receiver_fsm.specs.declared.states.RecvLane.{RecvLane}
@@ -9,7 +10,7 @@ use Rattle.wdt_receiver_fsm.specs.declared.states.RecvState.{RecvState}
 use Rattle.wdt_receiver_fsm.specs.declared.states.RecvState.TheVariants as states
 use Rattle.wdt_receiver_fsm.specs.Batched.{IsBatched, is_filled}
 use Rattle.wdt_receiver_fsm.specs.Logging.{all_logged, all_logged_by}
-use Rattle.wdt_receiver_fsm.specs.PlainReceiver.{PlainReceiver, failed, lane_at, past_at}
+use Rattle.wdt_receiver_fsm.specs.PlainReceiver.{PlainReceiver, failed, has_finish, lane_at, past_at}
 use Rattle.wdt_receiver_fsm.specs.Receiver.{Fares, IsReceiver}
 use Rattle.wdt_receiver_fsm.specs.ReceiverHistory.{EndPast, RecvPast, end_of}
 use Rattle.wdt_receiver_fsm.specs.Batched.{Continues}
@@ -26,9 +27,12 @@ use Rattle.wdt_log.specs.OpenLog.{OpenLog, RestsIn}
 use Rattle.wdt_writer.specs.PlainWriter.{PlainWriter}
 use Rattle.wdt_dock.specs.Desk.{AreBooks, plain_of}
 use Rattle.wdt_dock.specs.Dock.{IsDock}
-use Rattle.wdt_dock.specs.End.{EndView}
-use Rattle.wdt_dock.proofs.Choices.{desk_after, logged_stays}
-use Rattle.wdt_dock.proofs.Keeping.{Stays}
+use Rattle.wdt_receiver_fsm.specs.End.{EndView}
+use Rattle.wdt_dock.specs.DockView.{HasLostDisk}
+use Rattle.wdt_dock.proofs.Choices.{desk_after, kept_plain, logged_stays, lost_answer, same_stays}
+use Rattle.wdt_receiver_fsm.specs.Answered.{IsAnswered}
+use Rattle.wdt_receiver_fsm.proofs.ForCallers.{logged_answered, lost_answered}
+use Rattle.wdt_dock.proofs.Keeping.{Stays, stays_failed}
 
 -- a lane stands as its state says on an end that has failed, too
 fares_failed : (b : Bool) (state : RecvState) (lane : RecvLane) (past : RecvPast) (end : EndPast) → Fares b state lane past end → Fares true state lane past end
@@ -105,7 +109,43 @@ module _ (e : EndView) (log log2 : OpenLog) (w w2 : PlainWriter) (s s2 : State) 
     receiver = subst IsReceiver (sym plain) (logged_receiver (plain_of e log w) dock.receiver);
     batched = subst IsBatched (sym plain) batched;
     few = λ here. omega (arith, ap (λ (bs : List Block). length (filter is_filled bs)) (ap (λ (r : PlainReceiver). r.unlogged) plain ∙ none_left (plain_of e log w)));
+    answered = subst IsAnswered (sym plain) (logged_answered (plain_of e log w) dock.answered);
   }
 
   pub same_logged : Stays (plain_of e log w) (plain_of e log2 w2)
   same_logged = subst (λ (t : PlainReceiver). Stays (plain_of e log w) t) (sym plain) (logged_stays (plain_of e log w))
+
+not_finished : (r : PlainReceiver) → IsReceiver r → (r.unlogged ≡ [] → ⊥) → has_finish r ≡ false
+not_finished r is some = go (has_finish r) refl
+  where
+    go : (b : Bool) → has_finish r ≡ b → b ≡ false
+    go true come = absurd (some (is.finished come))
+    go false come = refl
+
+-- the same behind one that failed: the disk is lost, or memory ran out
+module _ (e : EndView) (log log2 : OpenLog) (w w2 : PlainWriter) (s s2 : State) (dock : IsDock e log w s) (meaning : log2.meaning ≡ log.meaning) (kept : w2 ≡ w) (books : AreBooks log2 w2) (spots : s2.spots ≡ []) where
+  pub lost_dock : (f : EndView) → f ≡ record e { answer = answers.Disk } → (w.unlogged ≡ [] → ⊥) → IsDock f log2 w2 s2
+  lost_dock f is some =
+      let plain : plain_of f log2 w2 ≡ failed (plain_of e log w) answers.Disk =
+      ap (λ (v : EndView). plain_of v log2 w2) is ∙ ap (λ (r : PlainReceiver). failed r answers.Disk) (kept_plain e log log2 w w2 meaning kept) in
+      let lost : HasLostDisk f.answer = lost_answer f.answer (ap (λ (v : EndView). v.answer) is) in
+      record {
+        desk = desk_after e f log log2 w w2 dock.desk books (ap (λ (x : PlainWriter). x.parts) kept) (subst (λ (t : PlainReceiver). Stays (plain_of e log w) t) (sym plain) (stays_failed (plain_of e log w) answers.Disk));
+        rest = record { spots = spots; log_open = λ here. absurd (here lost); rests = λ here. absurd (here lost) };
+        receiver = subst IsReceiver (sym plain) (lost_receiver (plain_of e log w) dock.receiver);
+        batched = subst IsBatched (sym plain) (lost_batched (plain_of e log w) dock.batched);
+        few = λ here. absurd (here lost);
+        answered = subst IsAnswered (sym plain) (lost_answered (plain_of e log w) (not_finished (plain_of e log w) dock.receiver some));
+      }
+
+  pub kept_dock : log2.shut ≡ false → (RestsIn log s → RestsIn log2 s2) → IsDock e log2 w2 s2
+  kept_dock unshut rests =
+      let plain = kept_plain e log log2 w w2 meaning kept in
+      record {
+        desk = desk_after e e log log2 w w2 dock.desk books (ap (λ (x : PlainWriter). x.parts) kept) (same_stays (plain_of e log w) (plain_of e log2 w2) plain);
+        rest = record { spots = spots; log_open = λ here. unshut; rests = λ here. rests (dock.rest.rests here) };
+        receiver = subst IsReceiver (sym plain) dock.receiver;
+        batched = subst IsBatched (sym plain) dock.batched;
+        few = λ here. subst (λ (x : PlainWriter). length (filter is_filled x.unlogged) ≤ MAX_BLOCKS) (sym kept) (dock.few here);
+        answered = subst IsAnswered (sym plain) dock.answered;
+      }

@@ -34,7 +34,7 @@ use Rattle.wdt_dock.specs.Booked.{IsBooked, KnownStand}
 use Rattle.wdt_dock.specs.Desk.{AreBooks, IsDesk, part_by, plain_of}
 use Rattle.wdt_dock.specs.DockGood.{DockGood, GoodReads, HasPart, HasPartOf, IfKnown, IsTrees, StandsWithin}
 use Rattle.wdt_dock.specs.DockView.{HasLostDisk}
-use Rattle.wdt_dock.specs.End.{EndView, lane_in}
+use Rattle.wdt_receiver_fsm.specs.End.{EndView, lane_in}
 use Rattle.wdt_dock.proofs.Keeping.{Stays}
 
 -- ---- what the log says once what landed is logged

@@ -2,6 +2,7 @@
 use Rattle.std.proofs.Common.{◌≡◌, inl, inr, ℕ, zero, suc, ◌+◌, ◌<◌, ◌≤◌, Bool, true, List, [], ◌∷◌, length, Option, Some, None, refl, sym, ap, ◌∙◌, subst, arith}
 use Rattle.std.specs.Prelude.{◌≢◌, IfSome, slice_set}
 use Rattle.std.proofs.lemmas.Bool.{cases_eq}
+use Rattle.std.proofs.lemmas.List.{length-set}
 use Rattle.wdt_units.specs.declared.blocks.Block.{Block}
 use Rattle.wdt_units.specs.declared.numbers.Lane.{Lane}
 use Rattle.wdt_units.specs.Tree.{File}
@@ -30,7 +31,7 @@ use Rattle.wdt_receiver_fsm.specs.Turn.{Step, reads, tells_failure}
 use Rattle.wdt_dock.specs.Booked.{IsBooked}
 use Rattle.wdt_dock.specs.Desk.{AreBooks, IsDesk, IsWritten, books_of, part_by, part_in, plain_of}
 use Rattle.wdt_dock.specs.DockView.{HasLostDisk}
-use Rattle.wdt_dock.specs.End.{Books, EndView, lane_in, plain_with}
+use Rattle.wdt_receiver_fsm.specs.End.{Books, EndView, lane_in, plain_with}
 use Rattle.wdt_dock.specs.Landing.{IsWholeOf}
 use Rattle.wdt_dock.proofs.Choices.{kept_plain, logged_stays, lost_answer}
 use Rattle.wdt_dock.proofs.Keeping.{LosesNone, loses_lane, stays_failed, stays_going, stays_more}
@@ -38,11 +39,6 @@ use Rattle.wdt_dock.proofs.LandedBlock.{books_landed}
 use Rattle.wdt_dock.proofs.Landings.{booked_now, landed_drops, landed_loses, part_beside, part_here}
 use Rattle.wdt_dock.proofs.Parting.{Drops, drops_on}
 use Rattle.wdt_dock.proofs.Taken.{some_of, sound_with}
-
-set_long : (parts : List (Option Part)) (l : ℕ) (o : Option Part) → length (slice_set parts l o) ≡ length parts
-set_long [] l o = refl
-set_long (p ∷ parts) zero o = refl
-set_long (p ∷ parts) (suc l) o = ap suc (set_long parts l o)
 
 logged_answer : (r : PlainReceiver) → (HasLostDisk r.answer → ⊥) → HasLostDisk (all_logged r).answer → ⊥
 logged_answer r here = go r.unlogged
@@ -107,7 +103,7 @@ module _ (e : EndView) (log : OpenLog) (w : PlainWriter) (l : Lane) (count : ℕ
           pending = subst (λ (x : PlainWriter). x.pending ≡ entries_of x.known log.meaning.files x.unlogged) (sym is) stands.pending;
           adds = subst (λ (x : PlainWriter). all_added written_version log.meaning.files x.pending ≡ Some x.files) (sym is) stands.adds;
         };
-        lanes = ap (λ (ps : List (Option Part)). length ps) parts ∙ set_long w.parts l.0 (Some more) ∙ desk.lanes;
+        lanes = ap (λ (ps : List (Option Part)). length ps) parts ∙ length-set w.parts l.0 (Some more) ∙ desk.lanes;
         parts = λ k below. ap (λ (ps : List (Option Part)). part_of ps k) parts ∙ (elim (cases_eq k l.0) [
           | inl same ↦ subst (λ (j : ℕ). part_of (slice_set w.parts l.0 (Some more)) j ≡ part_in e j) (sym same)
               (part_here w.parts l.0 (Some more) (subst (λ (n : ℕ). l.0 < n) (sym desk.lanes) within) ∙ ap (λ (n : ℕ). part_by (Some block) n) (sym desk.left) ∙ ap (λ (o : Option Block). part_by o (lane_in e l.0).left) (sym begun))

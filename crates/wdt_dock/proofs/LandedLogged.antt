@@ -26,7 +26,7 @@ use Rattle.wdt_receiver_fsm.specs.PlainReceiver.{has_finish}
 use Rattle.wdt_receiver_fsm.specs.Receiver.{IsReceiver}
 use Rattle.wdt_receiver_fsm.proofs.ForCallers.{landed_named, landed_there}
 use Rattle.wdt_dock.specs.Desk.{IsDesk, plain_of}
-use Rattle.wdt_dock.specs.End.{EndView}
+use Rattle.wdt_receiver_fsm.specs.End.{EndView}
 use Rattle.wdt_dock.specs.Landed.{AllLogged, EachLogged, IsLogged}
 
 -- ---- the file of a number

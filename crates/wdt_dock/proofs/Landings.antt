@@ -35,7 +35,7 @@ use Rattle.wdt_dock.specs.Booked.{IsBooked}
 use Rattle.wdt_dock.specs.Desk.{AreBooks, IsDesk, IsWritten, part_by, plain_of}
 use Rattle.wdt_dock.specs.DockGood.{DockGood, GoodReads, HasPart, HasPartOf, IfKnown, IsTrees, StandsWithin}
 use Rattle.wdt_dock.specs.DockView.{HasLostDisk}
-use Rattle.wdt_dock.specs.End.{EndView, lane_in}
+use Rattle.wdt_receiver_fsm.specs.End.{EndView, lane_in}
 use Rattle.wdt_dock.specs.Landing.{IsWholeOf, land_plan}
 use Rattle.wdt_dock.proofs.Goodness.{files_behind_are, reads_after}
 use Rattle.wdt_dock.proofs.Keeping.{LosesNone, lane_other, loses_lane}

@@ -2,7 +2,6 @@ mod Begins
 mod Begun
 mod Booking
 mod Choices
-mod Ending
 mod Fewness
 mod Finishing
 mod Flushed
@@ -19,12 +18,12 @@ mod MayServing
 mod Opened
 mod Parting
 mod Quiet
-mod Results
 mod Served
+mod Sparing
 mod Starts
 mod Stepped
 mod TakeRow
 mod Taken
-mod Telling
 mod Waiting
+mod Wanted
 mod Written

@@ -26,7 +26,7 @@ use Rattle.wdt_receiver_fsm.specs.Batched.{is_filled}
 use Rattle.wdt_receiver_fsm.specs.Logging.{all_logged, all_logged_by, dirty_paths, flush_calls, flush_calls_by, log_after, pending}
 use Rattle.wdt_dock.specs.Booked.{IsBooked, KnownStand}
 use Rattle.wdt_dock.specs.Desk.{AreBooks, plain_of}
-use Rattle.wdt_dock.specs.End.{EndView}
+use Rattle.wdt_receiver_fsm.specs.End.{EndView}
 use Rattle.wdt_dock.proofs.Booking.{all_stand, touched}
 use Rattle.wdt_dock.proofs.Lengths.{batch_fits}
 

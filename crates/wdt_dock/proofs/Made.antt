@@ -34,7 +34,7 @@ use Rattle.wdt_receiver_fsm.specs.PlainReceiver.{PlainReceiver, lane_at, past_at
 use Rattle.wdt_receiver_fsm.specs.ReceiverHistory.{past_of}
 use Rattle.wdt_dock.specs.Desk.{AreBooks, IsDesk, plain_of}
 use Rattle.wdt_dock.specs.DockGood.{GoodReads, HasPart, HasPartOf, IfKnown, IsTrees, StandsWithin}
-use Rattle.wdt_dock.specs.End.{EndView, lane_in}
+use Rattle.wdt_receiver_fsm.specs.End.{EndView, lane_in}
 use Rattle.wdt_dock.proofs.Begun.{Begun, books_begun, known_on, noted_begun, part_now}
 use Rattle.wdt_dock.proofs.Goodness.{ReadsAs, begun_known, files_as, files_behind_are, part_as, stands_as}
 use Rattle.wdt_dock.proofs.LandedBlock.{files_landed}

@@ -33,7 +33,8 @@ use Rattle.wdt_receiver_fsm.specs.Receiver.{IsReceiver}
 use Rattle.wdt_dock.specs.Desk.{IsDesk, part_by}
 use Rattle.wdt_dock.specs.Dock.{IsDock}
 use Rattle.wdt_dock.specs.DockGood.{DockGood, HasPart, IfKnown, IsTrees, StandsWithin}
-use Rattle.wdt_dock.specs.End.{lane_in, new_end}
+use Rattle.wdt_receiver_fsm.specs.Answered.{IsAnswered}
+use Rattle.wdt_receiver_fsm.specs.End.{lane_in, new_end}
 
 -- ---- known files of a log
 
@@ -163,14 +164,15 @@ module _ (log : OpenLog) (batch n : ℕ) (view : is_view log.meaning.files ≡ t
     parts = λ l within. no_part n l ∙ ap (λ (p : RecvPast). part_by p.begun (lane_in (new_end log.meaning.files batch n) l).left) (sym (past_of-none l));
   }
 
-  pub dock_opened : (s : State) → s.spots ≡ [] → log.shut ≡ false → RestsIn log s → IsReceiver (opened log.meaning batch (replicate n new_lane)) → IsBatched (opened log.meaning batch (replicate n new_lane))
+  pub dock_opened : (s : State) → s.spots ≡ [] → log.shut ≡ false → RestsIn log s → IsReceiver (opened log.meaning batch (replicate n new_lane)) → IsBatched (opened log.meaning batch (replicate n new_lane)) → IsAnswered (opened log.meaning batch (replicate n new_lane))
       → IsDock (new_end log.meaning.files batch n) log (writer_opened log.meaning.files n) s
-  dock_opened s spots unshut rests receiver batched = record {
+  dock_opened s spots unshut rests receiver batched answered = record {
     desk = desk_opened;
     rest = record { spots = spots; log_open = λ here. unshut; rests = λ here. rests };
     receiver = receiver;
     batched = batched;
     few = λ here. omega arith;
+    answered = answered;
   }
 
 -- it is good on the disk that is told

@@ -29,7 +29,7 @@ use Rattle.wdt_receiver_fsm.specs.Turn.{drops, drops_lane, given_up, is_used_up,
 use Rattle.wdt_dock.specs.Desk.{IsDesk, part_by, plain_of}
 use Rattle.wdt_dock.specs.DockGood.{DockGood, GoodReads, HasPart, HasPartOf, IfKnown, IsTrees, StandsWithin}
 use Rattle.wdt_dock.specs.DockView.{HasLostDisk}
-use Rattle.wdt_dock.specs.End.{EndView, lane_in}
+use Rattle.wdt_receiver_fsm.specs.End.{EndView, lane_in}
 use Rattle.wdt_dock.proofs.Keeping.{Stays, lane_other, stays_going, stays_more, stays_noted}
 
 -- ---- parts

@@ -22,7 +22,7 @@ use Rattle.wdt_receiver_fsm.specs.Turn.{Put, Step, after_starving, drops, leaves
 use Rattle.wdt_dock.specs.Desk.{IsAtRest, IsDesk, plain_of}
 use Rattle.wdt_dock.specs.DockGood.{DockGood}
 use Rattle.wdt_dock.specs.DockView.{HasLostDisk, LosesDisk, TurnRan, Turns}
-use Rattle.wdt_dock.specs.End.{Books, EndView, IsSameEnd}
+use Rattle.wdt_receiver_fsm.specs.End.{Books, EndView, IsSameEnd}
 use Rattle.wdt_dock.specs.Serving.{is_of_files}
 use Rattle.wdt_dock.proofs.Choices.{desk_after}
 use Rattle.wdt_dock.proofs.Goodness.{reads_stay}

@@ -31,7 +31,7 @@ use Rattle.wdt_dock.specs.Beginning.{IsRefused, books_with, starts, starts_by, t
 use Rattle.wdt_dock.specs.Desk.{AreBooks, IsAtRest, IsDesk, books_of, plain_of}
 use Rattle.wdt_dock.specs.DockGood.{DockGood, GoodReads}
 use Rattle.wdt_dock.specs.DockView.{HasLostDisk, LosesDisk}
-use Rattle.wdt_dock.specs.End.{Books, EndView, plain_with}
+use Rattle.wdt_receiver_fsm.specs.End.{Books, EndView, plain_with}
 use Rattle.wdt_dock.proofs.Begun.{Begun, begun_from, desk_begun, desk_placed, placed_drops, placed_loses, taken_begun, taken_left, taken_loses}
 use Rattle.wdt_dock.proofs.Choices.{counts_lost, counts_none, desk_after}
 use Rattle.wdt_dock.proofs.Goodness.{files_behind_are, since_same, told_lost, told_stays}

@@ -27,7 +27,7 @@ use Rattle.wdt_receiver_fsm.specs.Turn.{Bytes, Given, Put, turn_plan}
 use Rattle.wdt_receiver_fsm.proofs.ForCallers.{ends_weaker}
 use Rattle.wdt_dock.specs.Desk.{AreBooks, IsDesk, part_by, plain_of}
 use Rattle.wdt_dock.specs.DockView.{Turns}
-use Rattle.wdt_dock.specs.End.{EndView, lane_in}
+use Rattle.wdt_receiver_fsm.specs.End.{EndView, lane_in}
 use Rattle.wdt_dock.proofs.Flushed.{continues}
 
 -- what stands behind each end of a step, and stood before, stands behind the step, also where it was refused for memory

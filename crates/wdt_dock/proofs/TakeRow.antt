@@ -33,18 +33,15 @@ use Rattle.wdt_receiver_fsm.proofs.ForCallers.{ends_as, piece_broken, piece_end_
 use Rattle.wdt_dock.specs.Desk.{AreBooks, IsDesk, IsWritten, books_of, part_by, part_in, plain_of}
 use Rattle.wdt_dock.specs.DockGood.{DockGood, GoodReads, HasPart, HasPartOf, IsPieceOf, StandsWithin}
 use Rattle.wdt_dock.specs.DockView.{HasLostDisk}
-use Rattle.wdt_dock.specs.End.{Books, EndView, lane_in, plain_with}
+use Rattle.wdt_receiver_fsm.specs.End.{Books, EndView, lane_in, plain_with}
 use Rattle.wdt_dock.specs.Landing.{IsWholeOf}
+use Rattle.wdt_dock.specs.Sparing.{Between, IsBeside, Spares}
 use Rattle.wdt_dock.proofs.Choices.{desk_after, lost_answer}
 use Rattle.wdt_dock.proofs.Keeping.{LosesNone, Stays, lane_here, lane_other, loses_lane, stays_failed, stays_going, stays_more}
 use Rattle.wdt_dock.proofs.Landings.{part_beside, part_here}
+use Rattle.wdt_dock.proofs.Sparing.{spares_done, wrote_spares}
 use Rattle.wdt_dock.proofs.Taken.{begun_is, books_with, can_write, on_way, part_wrote, reads_wrote, some_of}
 use Rattle.wdt_dock.proofs.Written.{known_file}
-
-set_long : (parts : List (Option Part)) (l : ℕ) (o : Option Part) → length (slice_set parts l o) ≡ length parts
-set_long [] l o = refl
-set_long (p ∷ parts) zero o = refl
-set_long (p ∷ parts) (suc l) o = ap suc (set_long parts l o)
 
 fit_told : (T : List File) (r : PlainReceiver) (a : Option Told) → IfTold (λ t. DockGood T r t.now) a → IfTold (λ t. AllFit T t.now) a
 fit_told T r None good = tt
@@ -145,6 +142,12 @@ module _ (e : EndView) (log : OpenLog) (w : PlainWriter) (l : Lane) (bytes : Lis
     pub rests_now : RestsIn log s0 → RestsIn log s1
     rests_now rests = (uses result s0 s1 disk).log log.version log.meaning.files log.meaning.end rests
 
+    -- all else that is read stays
+    pub spares_now : Between (Spares (IsBeside w.known) w.files) s0.told s1.told
+    spares_now =
+        spares_done (IsBeside w.known) w.files (wrote path place bytes) result s0.told s1.told
+        (wrote_spares w.known w.files desk.books.sound.are_files desk.books.sound.are_named part (on_way e log w l within desk block begun) bytes fits) (uses result s0 s1 disk).step
+
   -- the block's file stands
   stands_here : (T : List File) (d : Disk) → GoodReads T before d → IsSome (d (path_begun w l.0))
   stands_here T d good =
@@ -172,7 +175,7 @@ module _ (e : EndView) (log : OpenLog) (w : PlainWriter) (l : Lane) (bytes : Lis
     parts_is = ap (λ (x : PlainWriter). x.parts) taken_is
 
     parts_long : length w1.parts ≡ length e.lanes
-    parts_long = ap (λ (ps : List (Option Part)). length ps) parts_is ∙ set_long w.parts l.0 (Some part_now) ∙ desk.lanes
+    parts_long = ap (λ (ps : List (Option Part)). length ps) parts_is ∙ length-set w.parts l.0 (Some part_now) ∙ desk.lanes
 
     at_now : part_of w1.parts l.0 ≡ Some part_now
     at_now = ap (λ (ps : List (Option Part)). part_of ps l.0) parts_is ∙ part_here w.parts l.0 (Some part_now) (subst (λ (n : ℕ). l.0 < n) (sym desk.lanes) within)

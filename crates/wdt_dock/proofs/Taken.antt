@@ -24,7 +24,7 @@ use Rattle.wdt_receiver_fsm.specs.Turn.{next_place}
 use Rattle.wdt_dock.specs.Desk.{AreBooks, IsDesk, part_by, plain_of}
 use Rattle.wdt_dock.specs.DockGood.{DockGood, GoodReads, HasPart, HasPartOf, IsPieceOf, StandsWithin}
 use Rattle.wdt_dock.specs.DockView.{HasLostDisk}
-use Rattle.wdt_dock.specs.End.{EndView, lane_in}
+use Rattle.wdt_receiver_fsm.specs.End.{EndView, lane_in}
 use Rattle.wdt_dock.proofs.Goodness.{files_behind_are}
 use Rattle.wdt_dock.proofs.Landings.{part_beside, part_here}
 use Rattle.wdt_dock.proofs.Written.{all_stand_after, apart_part, clear_logged, files_read, known_file, may, own_part, part_after}

@@ -17,11 +17,11 @@ use Rattle.wdt_receiver_fsm.specs.ReceiverHistory.{EndPast, RecvPast, end_of, en
 use Rattle.wdt_receiver_fsm.specs.Sets.{set_of}
 use Rattle.wdt_receiver_fsm.specs.Turn.{Step, finish_plan, idle_by, says_done, tells_by, waits_by}
 use Rattle.wdt_receiver_fsm.proofs.ForCallers.{ends_as, plan_as, plan_ends}
-use Rattle.wdt_dock.specs.declared.idling.Idling.{Idling}
-use Rattle.wdt_dock.specs.declared.idling.Idling.TheVariants as ways
+use Rattle.wdt_receiver_fsm.specs.declared.idling.Idling.{Idling}
+use Rattle.wdt_receiver_fsm.specs.declared.idling.Idling.TheVariants as ways
 use Rattle.wdt_dock.specs.Desk.{AreBooks, plain_of}
-use Rattle.wdt_dock.specs.End.{EndView}
-use Rattle.wdt_dock.specs.Idling.{choice_plan, idled, idled_history, row_of_way}
+use Rattle.wdt_receiver_fsm.specs.End.{EndView}
+use Rattle.wdt_receiver_fsm.specs.Idling.{choice_plan, idled, idled_history, row_of_way}
 use Rattle.wdt_dock.proofs.Finishing.{idled_entries, idled_loses, idled_stays}
 use Rattle.wdt_dock.proofs.Goodness.{files_behind_are}
 use Rattle.wdt_dock.proofs.Keeping.{LosesNone, Stays, loses_lane, stays_going, stays_more, stays_noted}

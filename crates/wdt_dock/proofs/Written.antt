@@ -1,16 +1,15 @@
 -- A piece of a begun block is written: what is read stays the tree's, of other blocks and of this one.
-use Rattle.std.proofs.Common.{◌≡◌, inl, inr, ℕ, zero, suc, ◌+◌, ◌-◌, ◌<◌, ◌≤◌, Bool, true, false, ◌||◌, List, [], ◌∷◌, length, drop, map, Option, Some, None, refl, sym, ap, ◌∙◌, subst, arith}
-use Rattle.std.specs.Prelude.{option_map, slice_index}
+use Rattle.std.proofs.Common.{◌≡◌, inl, inr, ℕ, zero, suc, ◌+◌, ◌-◌, ◌<◌, ◌≤◌, Bool, true, false, ◌||◌, List, [], ◌∷◌, ◌++◌, length, length-append, take, drop, map, Option, Some, None, refl, sym, ap, ◌∙◌, subst, arith}
+use Rattle.std.specs.Prelude.{option_map, replicate, slice_index}
 use Rattle.std.specs.Str.{bytes_eq}
 use Rattle.std.proofs.lemmas.Bool.{cases_lt, or_cases}
-use Rattle.std.proofs.lemmas.List.{get_or-take, get_or-drop}
+use Rattle.std.proofs.lemmas.List.{get_or-append_right, get_or-drop, get_or-take, get_or_append_left, length-replicate, length-take}
 use Rattle.std.proofs.lemmas.Slice.Eq.{bytes_eq-Decides}
 use Rattle.wdt_units.specs.Have.{is_in}
 use Rattle.wdt_units.specs.Tree.{File, IsRead, file_of}
 use Rattle.wdt_units.specs.declared.blocks.Block.{Block}
-use Rattle.wdt_depot.specs.Disk.{Disk, DiskFile, IfFile, IsOutside, seen_of, write_file, wrote}
+use Rattle.wdt_depot.specs.Disk.{Disk, DiskFile, IfFile, IsOutside, seen_of, spliced, write_file, wrote}
 use Rattle.wdt_depot.proofs.ForCallers.{length-spliced, not_in_is_outside, outside_is_not_in, seen_outside_write, with_file-other, with_file-same}
-use Rattle.wdt_depot.proofs.Writes.{spliced_in}
 use Rattle.wdt_logfmt.specs.declared.entry.LogEntry.{LogEntry}
 use Rattle.wdt_logfmt.specs.Adding.{all_added, span_at}
 use Rattle.wdt_logfmt.specs.Batches.{path_at, path_by}
@@ -82,6 +81,14 @@ written_within : (o : ℕ) (bytes : List ℕ) (x : DiskFile) (size : ℕ) → le
 unfolding write_file
 written_within o bytes x size one two = omega (arith, length-spliced x.seen o bytes, one, two)
 
+-- in the range stands what was written
+byte_wrote : (o : ℕ) (bytes : List ℕ) (x : DiskFile) (k : ℕ) → o ≤ k → k < o + length bytes → slice_index (write_file o bytes x).seen k ≡ slice_index bytes (k - o)
+unfolding write_file spliced
+byte_wrote o bytes x k low below =
+    let front : List ℕ = take o (x.seen ++ replicate (o - length x.seen) 0) in
+    let long : length front ≡ o = omega (arith, length-take o (x.seen ++ replicate (o - length x.seen) 0), length-append x.seen (replicate (o - length x.seen) 0), length-replicate {A = ℕ} (o - length x.seen) 0) in
+    get_or_append_left (front ++ bytes) (drop (o + length bytes) x.seen) 0 k (omega (arith, below, long, length-append front bytes)) ∙ get_or-append_right front bytes o k 0 long low
+
 -- what is outside of the range stays
 bytes_beside : (o : ℕ) (bytes tree : List ℕ) (x : DiskFile) (a n : ℕ) → ((k : ℕ) → a ≤ k → k < a + n → IsOutside k (range_at o (length bytes))) → HasBytes (Some x.seen) tree (span_at a n ∷ []) → HasBytes (Some (write_file o bytes x).seen) tree (span_at a n ∷ [])
 unfolding write_file
@@ -105,7 +112,7 @@ bytes_grow o len left bytes tree x short fits has_all piece k h =
           let below : k < place + length bytes = omega (arith, within.1, short, fits) in
           let back : place + (k - place) ≡ k = omega (arith, new) in (
             omega (arith, below, length-spliced x.seen place bytes),
-            spliced_in x.seen place bytes k new below ∙ piece (k - place) (omega (arith, new, below)) ∙ ap (λ (n : ℕ). slice_index tree n) back,
+            byte_wrote place bytes x k new below ∙ piece (k - place) (omega (arith, new, below)) ∙ ap (λ (n : ℕ). slice_index tree n) back,
           )
     ]
 

@@ -13,7 +13,7 @@ use Rattle.wdt_writer.specs.PlainWriter.{PlainWriter, begins, lands}
 use Rattle.wdt_receiver_fsm.specs.declared.events.RecvEvent.TheVariants as events
 use Rattle.wdt_receiver_fsm.specs.PlainReceiver.{PlainReceiver, failed, noted}
 use Rattle.wdt_receiver_fsm.specs.Turn.{Step, tells_failure}
-use Rattle.wdt_dock.specs.End.{Books}
+use Rattle.wdt_receiver_fsm.specs.End.{Books}
 
 -- ---- a block that begins
 

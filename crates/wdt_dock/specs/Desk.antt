@@ -12,7 +12,7 @@ use Rattle.wdt_writer.specs.PlainWriter.{PlainWriter, part_at}
 use Rattle.wdt_receiver_fsm.specs.PlainReceiver.{PlainReceiver}
 use Rattle.wdt_receiver_fsm.specs.ReceiverHistory.{past_of}
 use Rattle.wdt_dock.specs.DockView.{HasLostDisk}
-use Rattle.wdt_dock.specs.End.{Books, EndView, lane_in, plain_with}
+use Rattle.wdt_receiver_fsm.specs.End.{Books, EndView, lane_in, plain_with}
 
 -- what is kept of the files: those that the writer knows, what the log says, and what landed since
 abbrev pub books_of : OpenLog → PlainWriter → Books

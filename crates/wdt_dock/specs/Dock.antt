@@ -17,6 +17,7 @@ use Rattle.wdt_log.specs.OpenLog.{OpenLog}
 use Rattle.wdt_writer.specs.PlainWriter.{PlainWriter}
 use Rattle.wdt_receiver_fsm.specs.declared.states.RecvState.{RecvState}
 use Rattle.wdt_receiver_fsm.specs.declared.states.RecvState.TheVariants as states
+use Rattle.wdt_receiver_fsm.specs.Answered.{IsAnswered}
 use Rattle.wdt_receiver_fsm.specs.Batched.{IsBatched, is_filled}
 use Rattle.wdt_receiver_fsm.specs.PlainReceiver.{PlainReceiver, lane_at, past_at, state_at}
 use Rattle.wdt_receiver_fsm.specs.Receiver.{IsReceiver}
@@ -27,18 +28,20 @@ use Rattle.wdt_dock.specs.declared.opening.DockFail.{DockFail}
 use Rattle.wdt_dock.specs.declared.opening.DockFail.TheVariants as opening
 use Rattle.wdt_dock.specs.Desk.{IsAtRest, IsDesk, plain_of}
 use Rattle.wdt_dock.specs.DockView.{DockView, HasLostDisk}
-use Rattle.wdt_dock.specs.End.{EndView}
+use Rattle.wdt_receiver_fsm.specs.End.{EndView}
 
 -- ---- what hangs together
 
 -- The lanes, the log and the writer are of one end, which is a receiver's; the log is at rest, unless the disk
--- failed; what landed adds up, and unless the disk failed there is room for it in a batch.
+-- failed; what landed adds up, and unless the disk failed there is room for it in a batch; and the answer
+-- follows from the lanes.
 pub record IsDock (e : EndView) (l : OpenLog) (w : PlainWriter) (s : State) : Type 0 where
   pub desk : IsDesk e l w
   pub rest : IsAtRest e l s
   pub receiver : IsReceiver (plain_of e l w)
   pub batched : IsBatched (plain_of e l w)
   pub few : (HasLostDisk e.answer → ⊥) → length (filter is_filled w.unlogged) ≤ MAX_BLOCKS
+  pub answered : IsAnswered (plain_of e l w)
 
 -- the log that the end goes by is at rest on the disk
 abbrev pub LogRests : PlainReceiver → State → Type 0

@@ -6,6 +6,8 @@ use Rattle.wdt_units.specs.Headers.{IsHeaderOf, IsOfFile}
 use Rattle.wdt_units.specs.Tree.{File, IsRead, file_of}
 use Rattle.wdt_codec.specs.declared.frames.Frame.TheVariants as frames
 use Rattle.wdt_depot.specs.Disk.{Disk, DiskFile, seen_of}
+use Rattle.wdt_depot.specs.Moments.{IfTold}
+use Rattle.wdt_depot.specs.State.{State}
 use Rattle.wdt_logfmt.specs.Adding.{span_at}
 use Rattle.wdt_logfmt.specs.Beginning.{KnownFile}
 use Rattle.wdt_good.specs.Good.{Each, GoodFiles, HasBytes}
@@ -60,6 +62,11 @@ pub record GoodReads (T : List File) (r : PlainReceiver) (d : Disk) : Type 0 whe
 pub record DockGood (T : List File) (r : PlainReceiver) (d : Disk) : Type 0 where
   pub fit : AllFit T d
   pub reads : (HasLostDisk r.answer → ⊥) → GoodReads T r d
+
+-- The same of what a depot tells. An opening establishes it of any tree for which each image is good, and each call
+-- keeps it where what is handed in is of the tree.
+abbrev pub IsGoodFor : List File → PlainReceiver → State → Type 0
+IsGoodFor T r s = IfTold (λ t. DockGood T r t.now) s.told
 
 -- ---- what is handed in
 

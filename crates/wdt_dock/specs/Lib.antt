@@ -4,10 +4,8 @@ pub mod Desk
 pub mod Dock
 pub mod DockGood
 pub mod DockView
-pub mod End
-pub mod EndInside
-pub mod Idling
 pub mod Landed
 pub mod Serving
 pub mod Landing
+pub mod Sparing
 pub mod Turning

@@ -16,15 +16,16 @@ ghost use Rattle.wdt_receiver_fsm.specs.ReceiverHistory.{past_of};
 ghost use Rattle.wdt_receiver_fsm.specs.Turn.{begins, block_plan};
 ghost use Rattle.wdt_dock.specs.Beginning.{IsRefused, books_with, starts};
 ghost use Rattle.wdt_dock.specs.Desk.{IsAtRest, IsDesk, plain_of};
-ghost use Rattle.wdt_dock.specs.DockGood.{DockGood};
+ghost use Rattle.wdt_dock.specs.DockGood.{DockGood, IsGoodFor};
 ghost use Rattle.wdt_dock.specs.DockView.{LosesDisk, TurnRan, Turns};
-ghost use Rattle.wdt_dock.specs.End.{Books, plain_with};
-ghost use Rattle.wdt_dock.specs.declared.end.TheConstants.{STEP_ENTRIES};
+ghost use Rattle.wdt_receiver_fsm.specs.End.{Books, plain_with};
+ghost use Rattle.wdt_receiver_fsm.specs.declared.end.TheConstants.{STEP_ENTRIES};
+ghost use Rattle.wdt_receiver_fsm.specs.Rows.{Block as BlockRead};
+ghost use Rattle.wdt_dock.specs.Sparing.{Between, IsOtherRow, Spares};
 
-use crate::end::RecvEnd;
 use wdt_depot::Depot;
 use wdt_log::Log;
-use wdt_receiver_fsm::RecvAct;
+use wdt_receiver_fsm::{RecvAct, RecvEnd};
 use wdt_sender_fsm::{EndAnswer, PeerKind};
 use wdt_units::{Block, Header, Lane, MAX_BLOCKS, NoMemory};
 use wdt_writer::{WriteFail, Writer};
@@ -59,11 +60,12 @@ pub fn begin<D: Depot>(
 
     // At each moment, inside each call too, each image is good for the tree and for what was logged
     // before; and behind it the end and its disk are good for the tree.
-    ensures images { (T : List File) → IfTold (λ t. DockGood T (plain_of end.old log.old writer.old) t.now) (D.state depot.old).told →
+    ensures images { (T : List File) → IsGoodFor T (plain_of end.old log.old writer.old) (D.state depot.old) →
         GoodSince T [] (D.state depot.old).told (D.state depot.new).told }
-    ensures good { (T : List File) → IsHeaderOf T header.now → IfTold (λ t. DockGood T (plain_of end.old log.old writer.old) t.now) (D.state depot.old).told →
-        IfTold (λ t. DockGood T (plain_of end.new log.new writer.new) t.now) (D.state depot.new).told }
+    ensures good { (T : List File) → IsHeaderOf T header.now → IsGoodFor T (plain_of end.old log.old writer.old) (D.state depot.old) →
+        IsGoodFor T (plain_of end.new log.new writer.new) (D.state depot.new) }
 
+    ensures spares { Between (Spares (IsOtherRow (writer.old).known (BlockRead header.now)) (writer.old).files) (D.state depot.old).told (D.state depot.new).told }
     ensures counts { Counts (LosesDisk (end.old).answer (end.new).answer) (D.state depot.old) (D.state depot.new) }
     ensures slips { (T : List File) → IfTold (λ t. DockGood T (plain_of end.old log.old writer.old) t.now → (D.state depot.new).slips ≡ (D.state depot.old).slips) (D.state depot.old).told }
 {

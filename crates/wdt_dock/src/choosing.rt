@@ -10,19 +10,18 @@ ghost use Rattle.wdt_receiver_fsm.specs.Frames.{short_fault};
 ghost use Rattle.wdt_receiver_fsm.specs.PlainReceiver.{can_finish, has_finish};
 ghost use Rattle.wdt_receiver_fsm.specs.Ready.{is_closed};
 ghost use Rattle.wdt_receiver_fsm.specs.Turn.{finish_plan};
-ghost use Rattle.wdt_dock.specs.declared.end.TheConstants.{STEP_ENTRIES};
+ghost use Rattle.wdt_receiver_fsm.specs.declared.end.TheConstants.{STEP_ENTRIES};
 ghost use Rattle.wdt_dock.specs.Desk.{IsAtRest, IsDesk, plain_of};
-ghost use Rattle.wdt_dock.specs.DockGood.{DockGood};
+ghost use Rattle.wdt_dock.specs.DockGood.{DockGood, IsGoodFor};
 ghost use Rattle.wdt_dock.specs.DockView.{LosesDisk, TurnRan, Turns};
-ghost use Rattle.wdt_dock.specs.Idling.{choice_plan, idled, row_of_way};
+ghost use Rattle.wdt_receiver_fsm.specs.Idling.{choice_plan, idled, row_of_way};
+ghost use Rattle.wdt_dock.specs.Sparing.{Between, IsBeside, Spares};
 
-use crate::end::RecvEnd;
-use crate::idling::Idling;
 use crate::logging::log_all;
 use std::alloc::Global;
 use wdt_depot::Depot;
 use wdt_log::{Log, LogFail};
-use wdt_receiver_fsm::RecvAct;
+use wdt_receiver_fsm::{Idling, RecvAct, RecvEnd};
 use wdt_sender_fsm::{EndAnswer, PeerKind};
 use wdt_units::{Lane, NoMemory};
 use wdt_writer::Writer;
@@ -57,9 +56,10 @@ pub fn choose<D: Depot>(
 
     // At each moment, inside each call too, each image is good for the tree and for what was logged
     // before; and behind it the end and its disk are good for the tree.
-    ensures images { (T : List File) → IfTold (λ t. DockGood T (plain_of end.old log.old writer.old) t.now) (D.state depot.old).told → GoodSince T [] (D.state depot.old).told (D.state depot.new).told }
-    ensures good { (T : List File) → IfTold (λ t. DockGood T (plain_of end.old log.old writer.old) t.now) (D.state depot.old).told → IfTold (λ t. DockGood T (plain_of end.new log.new writer.new) t.now) (D.state depot.new).told }
+    ensures images { (T : List File) → IsGoodFor T (plain_of end.old log.old writer.old) (D.state depot.old) → GoodSince T [] (D.state depot.old).told (D.state depot.new).told }
+    ensures good { (T : List File) → IsGoodFor T (plain_of end.old log.old writer.old) (D.state depot.old) → IsGoodFor T (plain_of end.new log.new writer.new) (D.state depot.new) }
 
+    ensures spares { Between (Spares (IsBeside (writer.old).known) (writer.old).files) (D.state depot.old).told (D.state depot.new).told }
     ensures counts { Counts (LosesDisk (end.old).answer (end.new).answer) (D.state depot.old) (D.state depot.new) }
     ensures slips { (T : List File) → IfTold (λ t. DockGood T (plain_of end.old log.old writer.old) t.now → (D.state depot.new).slips ≡ (D.state depot.old).slips) (D.state depot.old).told }
 {
@@ -92,17 +92,20 @@ fn finish<D: Depot>(
     requires sound { is_failure (end.old).answer ≡ false }
     requires room { STEP_ENTRIES ≤ (end.old).room }
 
-    ensures turns { Turns (finish_plan (end.old).history (idled way (plain_of end.old log.old writer.old) lane) lane (row_of_way way)) result (plain_of end.new log.new writer.new) (D.state depot.old) (D.state depot.new) }
-    ensures exact { TurnRan (finish_plan (end.old).history (idled way (plain_of end.old log.old writer.old) lane) lane (row_of_way way)) result (plain_of end.new log.new writer.new) (D.state depot.old) (D.state depot.new) }
+    ensures turns { Turns (finish_plan (end.old).history (idled way (plain_of end.old log.old writer.old) lane) lane (row_of_way way))
+        result (plain_of end.new log.new writer.new) (D.state depot.old) (D.state depot.new) }
+    ensures exact { TurnRan (finish_plan (end.old).history (idled way (plain_of end.old log.old writer.old) lane) lane (row_of_way way))
+        result (plain_of end.new log.new writer.new) (D.state depot.old) (D.state depot.new) }
     ensures memory { OnErr result (plain_of end.new log.new writer.new ≡ plain_of end.old log.old writer.old) }
     ensures desk { IsDesk end.new log.new writer.new }
     ensures rest { IsAtRest end.new log.new (D.state depot.new) }
 
     // At each moment, inside each call too, each image is good for the tree and for what was logged
     // before; and behind it the end and its disk are good for the tree.
-    ensures images { (T : List File) → IfTold (λ t. DockGood T (plain_of end.old log.old writer.old) t.now) (D.state depot.old).told → GoodSince T [] (D.state depot.old).told (D.state depot.new).told }
-    ensures good { (T : List File) → IfTold (λ t. DockGood T (plain_of end.old log.old writer.old) t.now) (D.state depot.old).told → IfTold (λ t. DockGood T (plain_of end.new log.new writer.new) t.now) (D.state depot.new).told }
+    ensures images { (T : List File) → IsGoodFor T (plain_of end.old log.old writer.old) (D.state depot.old) → GoodSince T [] (D.state depot.old).told (D.state depot.new).told }
+    ensures good { (T : List File) → IsGoodFor T (plain_of end.old log.old writer.old) (D.state depot.old) → IsGoodFor T (plain_of end.new log.new writer.new) (D.state depot.new) }
 
+    ensures spares { Between (Spares (IsBeside (writer.old).known) (writer.old).files) (D.state depot.old).told (D.state depot.new).told }
     ensures counts { Counts (LosesDisk (end.old).answer (end.new).answer) (D.state depot.old) (D.state depot.new) }
     ensures slips { (T : List File) → IfTold (λ t. DockGood T (plain_of end.old log.old writer.old) t.now → (D.state depot.new).slips ≡ (D.state depot.old).slips) (D.state depot.old).told }
 {

@@ -1,5 +1,6 @@
 //! A receiver's end with its files, as its lanes share it, over a depot.
-ghost use Rattle.std.specs.Prelude.{◌≡◌, ◌↔◌, ◌<◌, ◌≤◌, false, true, List, [], length, option_map, replicate, IfErr, IfOk, IsErrOf, None, OnOk};
+ghost use Rattle.std.specs.Prelude.{◌≡◌, ◌↔◌, ◌<◌, ◌≤◌, false, true, List, [], length, option_map, replicate, IfErr, IfOk, IfSome, IsErrOf, None, OnOk};
+ghost use Rattle.wdt_units.specs.declared.limits.TheConstants.{PIECE};
 ghost use Rattle.wdt_units.specs.Tree.{File};
 ghost use Rattle.wdt_depot.specs.Disk.{seen_of};
 ghost use Rattle.wdt_depot.specs.Moments.{IfTold};
@@ -9,19 +10,19 @@ ghost use Rattle.wdt_good.specs.Logged.{AllFit, GoodSince};
 ghost use Rattle.wdt_log.specs.Flushing.{ReadsStand};
 ghost use Rattle.wdt_log.specs.Others.{OthersStand, SlipsStand};
 ghost use Rattle.wdt_sender_fsm.specs.Rules.{is_failure};
+ghost use Rattle.wdt_receiver_fsm.specs.Answered.{HasNoLane, has_all_done};
 ghost use Rattle.wdt_receiver_fsm.specs.Batched.{IsBatched};
 ghost use Rattle.wdt_receiver_fsm.specs.Logging.{all_logged, flush_calls};
-ghost use Rattle.wdt_receiver_fsm.specs.PlainReceiver.{failed, has_finish, new_lane, opened, state_at};
+ghost use Rattle.wdt_receiver_fsm.specs.PlainReceiver.{failed, has_finish, lane_at, new_lane, opened, state_at};
 ghost use Rattle.wdt_receiver_fsm.specs.Receiver.{IsReceiver};
 ghost use Rattle.wdt_dock.specs.Booked.{KnownStand};
 ghost use Rattle.wdt_dock.specs.Dock.{FailedBy, IsRefusal, LogRests, RanFlush, RanOpen, depot_behind, wanted};
-ghost use Rattle.wdt_dock.specs.DockGood.{DockGood};
+ghost use Rattle.wdt_dock.specs.DockGood.{IsGoodFor};
 ghost use Rattle.wdt_dock.specs.DockView.{HasLostDisk};
 ghost use Rattle.wdt_dock.specs.Landed.{AllLogged, EachLogged};
 
 mod stepping;
 
-use crate::end::RecvEnd;
 use crate::flushing::{FlushFail, flush};
 use crate::opening::{DockFail, of_log, parts_of};
 use crate::wanting::wants;
@@ -29,7 +30,7 @@ use std::alloc::Global;
 use std::marker::Model;
 use wdt_depot::Depot;
 use wdt_log::Log;
-use wdt_receiver_fsm::{RecvEvent, RecvState, batches_add_up, receivers_stay_receivers};
+use wdt_receiver_fsm::{RecvEnd, RecvEvent, RecvState, batches_add_up, receivers_stay_receivers};
 use wdt_sender_fsm::EndAnswer;
 use wdt_units::{Lane, MAX_LANES, Name, NoMemory};
 use wdt_writer::Writer;
@@ -84,7 +85,7 @@ impl<D: Depot + Drop> Dock<D> {
         // At each moment, inside each call too, each image is good for the tree and for what was logged
         // before, also where a call fails; and an end that was opened and its disk are good for the tree.
         ensures images { (T : List File) → IfTold (λ t. AllFit T t.now) (D.state depot).told → GoodSince T [] (D.state depot).told (D.state (depot_behind result)).told }
-        ensures good { (T : List File) → IfTold (λ t. AllFit T t.now) (D.state depot).told → IfOk result (λ dock. IfTold (λ t. DockGood T dock.plain t.now) (D.state dock.depot).told) }
+        ensures good { (T : List File) → IfTold (λ t. AllFit T t.now) (D.state depot).told → IfOk result (λ dock. IsGoodFor T dock.plain (D.state dock.depot)) }
 
         ensures others { OthersStand (D.state depot).told (D.state (depot_behind result)).told }
         ensures exact { RanOpen result (D.state depot) (D.state (depot_behind result)) }
@@ -129,8 +130,8 @@ impl<D: Depot + Drop> Dock<D> {
 
         // At each moment, inside each call too, each image is good for the tree and for what was logged
         // before, also where a call fails; and behind it the end and its disk are good for the tree.
-        ensures images { (T : List File) → IfTold (λ t. DockGood T self.old.plain t.now) (D.state self.old.depot).told → GoodSince T [] (D.state self.old.depot).told (D.state self.new.depot).told }
-        ensures good { (T : List File) → IfTold (λ t. DockGood T self.old.plain t.now) (D.state self.old.depot).told → IfTold (λ t. DockGood T self.new.plain t.now) (D.state self.new.depot).told }
+        ensures images { (T : List File) → IsGoodFor T self.old.plain (D.state self.old.depot) → GoodSince T [] (D.state self.old.depot).told (D.state self.new.depot).told }
+        ensures good { (T : List File) → IsGoodFor T self.old.plain (D.state self.old.depot) → IsGoodFor T self.new.plain (D.state self.new.depot) }
 
         ensures reads { ReadsStand (D.state self.old.depot).told (D.state self.new.depot).told }
         ensures exact { RanFlush (flush_calls self.old.plain) result (D.state self.old.depot) (D.state self.new.depot) }
@@ -150,7 +151,8 @@ impl<D: Depot + Drop> Dock<D> {
     /// bytes go there, and how many they are, at most 65,536.
     pub fn wants(&self, lane: Lane) -> Option<(&Name, u64, u32)>
         requires { lane.0 < length self.now.plain.lanes }
-        ensures { option_map (λ told. ((told.0).now, told.1, told.2)) result ≡ wanted self.now.plain lane.0 }
+        ensures value { option_map (λ told. ((told.0).now, told.1, told.2)) result ≡ wanted self.now.plain lane.0 }
+        ensures takes { IfSome result (λ told. (state_at self.now.plain lane.0 ≡ RecvState.TakeBlock) × (told.2 ≤ PIECE) × (told.2 ≤ (lane_at self.now.plain lane.0).left)) }
     {
         wants(&self.writer, &self.end, lane)
     }
@@ -164,12 +166,14 @@ impl<D: Depot + Drop> Dock<D> {
         self.end.history()
     }
 
-    /// How the end fares. Of what landed all is logged but for less than a batch, unless the end has failed;
-    /// and behind the finish all is.
+    /// How the end fares: unless it has failed, that follows from its lanes. Of what landed all is logged but
+    /// for less than a batch, unless the end has failed; and behind the finish all is.
     pub fn answer(&self) -> &EndAnswer
         ensures value { result.now ≡ self.now.plain.answer }
         ensures receiver { IsReceiver self.now.plain }
         ensures batched { IsBatched self.now.plain }
+        ensures done { (self.now.plain.answer ≡ EndAnswer.Done) ↔ (has_all_done self.now.plain ≡ true) }
+        ensures link { (self.now.plain.answer ≡ EndAnswer.Link) ↔ HasNoLane self.now.plain }
         ensures logged { is_failure self.now.plain.answer ≡ false → IfTold (λ t. AllLogged self.now.plain t.now) (D.state self.now.depot).told }
         ensures finished { has_finish self.now.plain ≡ true → (HasLostDisk self.now.plain.answer → ⊥) → IfTold (λ t. EachLogged self.now.plain t.now) (D.state self.now.depot).told }
     {
@@ -195,6 +199,8 @@ impl<D: Depot + Drop> Dock<D> {
         ensures answer { result.2 ≡ self.plain.answer }
         ensures receiver { IsReceiver self.plain }
         ensures batched { IsBatched self.plain }
+        ensures done { (self.plain.answer ≡ EndAnswer.Done) ↔ (has_all_done self.plain ≡ true) }
+        ensures link { (self.plain.answer ≡ EndAnswer.Link) ↔ HasNoLane self.plain }
         ensures logged { is_failure self.plain.answer ≡ false → IfTold (λ t. AllLogged self.plain t.now) (D.state result.0).told }
         ensures finished { has_finish self.plain ≡ true → (HasLostDisk self.plain.answer → ⊥) → IfTold (λ t. EachLogged self.plain t.now) (D.state result.0).told }
     {

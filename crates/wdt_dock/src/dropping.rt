@@ -7,8 +7,7 @@ ghost use Rattle.wdt_receiver_fsm.specs.Turn.{drops};
 ghost use Rattle.wdt_dock.specs.Desk.{IsDesk, plain_of};
 ghost use Rattle.wdt_dock.specs.DockGood.{DockGood};
 
-use crate::end::RecvEnd;
-use wdt_receiver_fsm::RecvAct;
+use wdt_receiver_fsm::{RecvAct, RecvEnd};
 use wdt_units::{Lane, NoMemory};
 use wdt_writer::Writer;
 

@@ -10,16 +10,15 @@ ghost use Rattle.wdt_receiver_fsm.specs.PlainReceiver.{failed};
 ghost use Rattle.wdt_dock.specs.Booked.{KnownStand};
 ghost use Rattle.wdt_dock.specs.Desk.{plain_of};
 ghost use Rattle.wdt_dock.specs.Dock.{IsDock, RanFlush};
-ghost use Rattle.wdt_dock.specs.DockGood.{DockGood};
+ghost use Rattle.wdt_dock.specs.DockGood.{IsGoodFor};
 ghost use Rattle.wdt_dock.specs.DockView.{HasLostDisk};
 
-use crate::end::RecvEnd;
 use crate::logging::log_all;
 use std::alloc::Global;
 use thiserror::Error;
 use wdt_depot::Depot;
 use wdt_log::{Log, LogFail};
-use wdt_receiver_fsm::batches_add_up;
+use wdt_receiver_fsm::{RecvEnd, batches_add_up};
 use wdt_sender_fsm::EndAnswer;
 use wdt_writer::Writer;
 
@@ -55,8 +54,8 @@ pub fn flush<D: Depot>(
     ensures failed { IsErrOf result FlushFail.Disk → plain_of end.new log.new writer.new ≡ failed (plain_of end.old log.old writer.old) EndAnswer.Disk }
     ensures memory { IsErrOf result FlushFail.NoMemory → plain_of end.new log.new writer.new ≡ plain_of end.old log.old writer.old }
 
-    ensures images { (T : List File) → IfTold (λ t. DockGood T (plain_of end.old log.old writer.old) t.now) (D.state depot.old).told → GoodSince T [] (D.state depot.old).told (D.state depot.new).told }
-    ensures good { (T : List File) → IfTold (λ t. DockGood T (plain_of end.old log.old writer.old) t.now) (D.state depot.old).told → IfTold (λ t. DockGood T (plain_of end.new log.new writer.new) t.now) (D.state depot.new).told }
+    ensures images { (T : List File) → IsGoodFor T (plain_of end.old log.old writer.old) (D.state depot.old) → GoodSince T [] (D.state depot.old).told (D.state depot.new).told }
+    ensures good { (T : List File) → IsGoodFor T (plain_of end.old log.old writer.old) (D.state depot.old) → IsGoodFor T (plain_of end.new log.new writer.new) (D.state depot.new) }
 
     ensures reads { ReadsStand (D.state depot.old).told (D.state depot.new).told }
     ensures exact { RanFlush (flush_calls (plain_of end.old log.old writer.old)) result (D.state depot.old) (D.state depot.new) }

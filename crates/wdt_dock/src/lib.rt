@@ -2,10 +2,9 @@
 //!
 //! What a step of a lane is, is a definition of `wdt_receiver_fsm`: a plain receiver, a lane and an input
 //! have one plan, which is the act and the receiver behind it, or a program of calls on the disk with what
-//! stands where one of them fails. `RecvEnd` is the part of the end that has no files: its lanes, its
-//! history and its answer. Its calls are the rows of the table that make no call on the disk, each with the
-//! step of that row, whatever is kept of the files (`specs/End.antt`). `specs/DockGood.antt` says when an
-//! end and its disk are good for a tree, and `specs/Landed.antt` which of the blocks that landed are logged.
+//! stands where one of them fails; `RecvEnd` there is the part of the end that has no files. Here are the rows
+//! that have some. `specs/DockGood.antt` says when an end and its disk are good for a tree, and
+//! `specs/Landed.antt` which of the blocks that landed are logged.
 //!
 //! The rows with files are functions over a depot, a log, a writer of blocks and an end. `specs/Desk.antt`
 //! says what hangs together of these: what the writer is to log is what is logged of the blocks that landed,
@@ -17,29 +16,18 @@
 //! landed when it is asked to, and hands its depot back.
 #![tactic(auto)]
 
-mod answers;
 mod beginning;
 mod choosing;
 mod dock;
 mod dropping;
-mod end;
 mod flushing;
-mod idling;
 mod logging;
 mod opening;
-mod rows;
 mod serving;
 mod taking;
 mod turning;
 mod wanting;
 
-pub use beginning::begin;
-pub use choosing::choose;
 pub use dock::Dock;
-pub use dropping::lose_connection;
-pub use end::RecvEnd;
 pub use flushing::FlushFail;
-pub use idling::Idling;
-pub use logging::log_all;
 pub use opening::DockFail;
-pub use taking::take;

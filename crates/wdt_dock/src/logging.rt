@@ -12,7 +12,7 @@ ghost use Rattle.wdt_receiver_fsm.specs.Batched.{is_filled};
 ghost use Rattle.wdt_receiver_fsm.specs.Logging.{all_logged, flush_calls};
 ghost use Rattle.wdt_dock.specs.Booked.{IsBooked, KnownStand};
 ghost use Rattle.wdt_dock.specs.Desk.{AreBooks, books_of, plain_of};
-ghost use Rattle.wdt_dock.specs.End.{EndView};
+ghost use Rattle.wdt_receiver_fsm.specs.End.{EndView};
 
 use std::alloc::Global;
 use wdt_depot::Depot;

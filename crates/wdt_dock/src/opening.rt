@@ -3,13 +3,13 @@ ghost use Rattle.std.specs.Prelude.{◌≡◌, ◌≤◌, List, map, replicate, 
 ghost use Rattle.wdt_logfmt.specs.View.{is_view, named_files};
 ghost use Rattle.wdt_writer.specs.PlainWriter.{opened};
 ghost use Rattle.wdt_dock.specs.Dock.{of_log};
-ghost use Rattle.wdt_dock.specs.End.{new_end};
+ghost use Rattle.wdt_receiver_fsm.specs.End.{new_end};
 
-use crate::end::RecvEnd;
 use std::alloc::Global;
 use thiserror::Error;
 use wdt_log::LogFail;
 use wdt_logfmt::{LogFile, LogView};
+use wdt_receiver_fsm::RecvEnd;
 use wdt_units::{MAX_LANES, NoMemory};
 use wdt_writer::Writer;
 

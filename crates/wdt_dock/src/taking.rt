@@ -10,20 +10,20 @@ ghost use Rattle.wdt_units.specs.declared.limits.TheConstants.{PIECE};
 ghost use Rattle.wdt_receiver_fsm.specs.PlainReceiver.{is_batch_full};
 ghost use Rattle.wdt_receiver_fsm.specs.ReceiverHistory.{past_of};
 ghost use Rattle.wdt_receiver_fsm.specs.Turn.{piece_plan};
-ghost use Rattle.wdt_dock.specs.declared.end.TheConstants.{STEP_ENTRIES};
+ghost use Rattle.wdt_receiver_fsm.specs.declared.end.TheConstants.{STEP_ENTRIES};
 ghost use Rattle.wdt_dock.specs.Desk.{IsAtRest, IsDesk, IsWritten, plain_of};
-ghost use Rattle.wdt_dock.specs.DockGood.{DockGood, IsPieceOf};
+ghost use Rattle.wdt_dock.specs.DockGood.{DockGood, IsGoodFor, IsPieceOf};
 ghost use Rattle.wdt_dock.specs.DockView.{LosesDisk, TurnRan, Turns};
-ghost use Rattle.wdt_dock.specs.End.{lane_in};
+ghost use Rattle.wdt_receiver_fsm.specs.End.{lane_in};
 ghost use Rattle.wdt_dock.specs.Landing.{IsWholeOf, land_plan};
 ghost use Rattle.wdt_log.specs.OpenLog.{OpenLog};
+ghost use Rattle.wdt_dock.specs.Sparing.{Between, IsBeside, Spares};
 
-use crate::end::RecvEnd;
 use crate::logging::log_all;
 use std::alloc::Global;
 use wdt_depot::Depot;
 use wdt_log::{Log, LogFail};
-use wdt_receiver_fsm::RecvAct;
+use wdt_receiver_fsm::{RecvAct, RecvEnd};
 use wdt_sender_fsm::EndAnswer;
 use wdt_units::{Lane, MAX_BLOCKS, NoMemory};
 use wdt_writer::{WriteFail, Writer};
@@ -52,17 +52,22 @@ pub fn take<D: Depot>(
     requires piece { length bytes.now ≤ PIECE }
     requires within { length bytes.now ≤ (lane_in end.old lane.0).left }
 
-    ensures turns { Turns (piece_plan (plain_of end.old log.old writer.old) lane bytes.now (past_of (end.old).history lane.0).begun) result (plain_of end.new log.new writer.new) (D.state depot.old) (D.state depot.new) }
-    ensures exact { TurnRan (piece_plan (plain_of end.old log.old writer.old) lane bytes.now (past_of (end.old).history lane.0).begun) result (plain_of end.new log.new writer.new) (D.state depot.old) (D.state depot.new) }
+    ensures turns { Turns (piece_plan (plain_of end.old log.old writer.old) lane bytes.now (past_of (end.old).history lane.0).begun)
+        result (plain_of end.new log.new writer.new) (D.state depot.old) (D.state depot.new) }
+    ensures exact { TurnRan (piece_plan (plain_of end.old log.old writer.old) lane bytes.now (past_of (end.old).history lane.0).begun)
+        result (plain_of end.new log.new writer.new) (D.state depot.old) (D.state depot.new) }
     ensures memory { OnErr result (plain_of end.new log.new writer.new ≡ plain_of end.old log.old writer.old) }
     ensures desk { IsDesk end.new log.new writer.new }
     ensures rest { IsAtRest end.new log.new (D.state depot.new) }
 
     // At each moment, inside each call too, each image is good for the tree and for what was logged
     // before; and behind it the end and its disk are good for the tree.
-    ensures images { (T : List File) → IsPieceOf T (plain_of end.old log.old writer.old) lane bytes.now → IfTold (λ t. DockGood T (plain_of end.old log.old writer.old) t.now) (D.state depot.old).told → GoodSince T [] (D.state depot.old).told (D.state depot.new).told }
-    ensures good { (T : List File) → IsPieceOf T (plain_of end.old log.old writer.old) lane bytes.now → IfTold (λ t. DockGood T (plain_of end.old log.old writer.old) t.now) (D.state depot.old).told → IfTold (λ t. DockGood T (plain_of end.new log.new writer.new) t.now) (D.state depot.new).told }
+    ensures images { (T : List File) → IsPieceOf T (plain_of end.old log.old writer.old) lane bytes.now →
+        IsGoodFor T (plain_of end.old log.old writer.old) (D.state depot.old) → GoodSince T [] (D.state depot.old).told (D.state depot.new).told }
+    ensures good { (T : List File) → IsPieceOf T (plain_of end.old log.old writer.old) lane bytes.now →
+        IsGoodFor T (plain_of end.old log.old writer.old) (D.state depot.old) → IsGoodFor T (plain_of end.new log.new writer.new) (D.state depot.new) }
 
+    ensures spares { Between (Spares (IsBeside (writer.old).known) (writer.old).files) (D.state depot.old).told (D.state depot.new).told }
     ensures counts { Counts (LosesDisk (end.old).answer (end.new).answer) (D.state depot.old) (D.state depot.new) }
     ensures slips { (T : List File) → IfTold (λ t. DockGood T (plain_of end.old log.old writer.old) t.now → (D.state depot.new).slips ≡ (D.state depot.old).slips) (D.state depot.old).told }
 {
@@ -98,17 +103,22 @@ fn land<D: Depot>(
     requires short { IfSome (past_of (end.old).history lane.0).begun (λ b. length bytes.now ≤ b.length) }
     requires room { 0 < (end.old).room }
 
-    ensures turns { Turns (land_plan (plain_of end.old log.old writer.old) lane bytes.now (past_of (end.old).history lane.0).begun) result (plain_of end.new log.new writer.new) (D.state depot.old) (D.state depot.new) }
-    ensures exact { TurnRan (land_plan (plain_of end.old log.old writer.old) lane bytes.now (past_of (end.old).history lane.0).begun) result (plain_of end.new log.new writer.new) (D.state depot.old) (D.state depot.new) }
+    ensures turns { Turns (land_plan (plain_of end.old log.old writer.old) lane bytes.now (past_of (end.old).history lane.0).begun)
+        result (plain_of end.new log.new writer.new) (D.state depot.old) (D.state depot.new) }
+    ensures exact { TurnRan (land_plan (plain_of end.old log.old writer.old) lane bytes.now (past_of (end.old).history lane.0).begun)
+        result (plain_of end.new log.new writer.new) (D.state depot.old) (D.state depot.new) }
     ensures memory { OnErr result (plain_of end.new log.new writer.new ≡ plain_of end.old log.old writer.old) }
     ensures desk { IsDesk end.new log.new writer.new }
     ensures rest { IsAtRest end.new log.new (D.state depot.new) }
 
     // At each moment, inside each call too, each image is good for the tree and for what was logged
     // before; and behind it the end and its disk are good for the tree.
-    ensures images { (T : List File) → IfTold (λ t. IsWholeOf T (plain_of end.old log.old writer.old) lane.0 t.now) (D.state depot.old).told → GoodSince T [] (D.state depot.old).told (D.state depot.new).told }
-    ensures good { (T : List File) → IfTold (λ t. IsWholeOf T (plain_of end.old log.old writer.old) lane.0 t.now) (D.state depot.old).told → IfTold (λ t. DockGood T (plain_of end.new log.new writer.new) t.now) (D.state depot.new).told }
+    ensures images { (T : List File) → IfTold (λ t. IsWholeOf T (plain_of end.old log.old writer.old) lane.0 t.now) (D.state depot.old).told →
+        GoodSince T [] (D.state depot.old).told (D.state depot.new).told }
+    ensures good { (T : List File) → IfTold (λ t. IsWholeOf T (plain_of end.old log.old writer.old) lane.0 t.now) (D.state depot.old).told →
+        IsGoodFor T (plain_of end.new log.new writer.new) (D.state depot.new) }
 
+    ensures spares { Between (Spares (IsBeside (writer.old).known) (writer.old).files) (D.state depot.old).told (D.state depot.new).told }
     ensures counts { Counts (LosesDisk (end.old).answer (end.new).answer) (D.state depot.old) (D.state depot.new) }
     ensures slips { (T : List File) → IfTold (λ t. DockGood T (plain_of end.old log.old writer.old) t.now → (D.state depot.new).slips ≡ (D.state depot.old).slips) (D.state depot.old).told }
 {
@@ -142,5 +152,5 @@ fn land<D: Depot>(
 fn is_full(end: &RecvEnd, writer: &Writer) -> bool
     ensures { (log : OpenLog) → result ≡ is_batch_full (plain_of end.now log writer.now) }
 {
-    writer.unlogged_bytes() >= end.batch || writer.unlogged().len() >= MAX_BLOCKS as usize
+    writer.unlogged_bytes() >= end.batch() || writer.unlogged().len() >= MAX_BLOCKS as usize
 }

@@ -13,21 +13,23 @@ ghost use Rattle.wdt_receiver_fsm.specs.Rows.{shown};
 ghost use Rattle.wdt_receiver_fsm.specs.Turn.{Bytes, Given, recv_plan, take_plan, turn_row};
 ghost use Rattle.wdt_receiver_fsm.specs.Writes.{FitsPut};
 ghost use Rattle.wdt_dock.specs.Desk.{IsAtRest, IsDesk, plain_of};
-ghost use Rattle.wdt_dock.specs.DockGood.{DockGood, PutOf};
+ghost use Rattle.wdt_dock.specs.DockGood.{DockGood, IsGoodFor, PutOf};
 ghost use Rattle.wdt_dock.specs.DockView.{LosesDisk, TurnRan, Turns};
-ghost use Rattle.wdt_dock.specs.End.{lane_in};
+ghost use Rattle.wdt_receiver_fsm.specs.End.{lane_in};
+ghost use Rattle.wdt_dock.specs.Sparing.{Between, IsBeside, IsOther, IsOtherRow, Spares};
 ghost use Rattle.wdt_dock.specs.Turning.{IsTreesRow, MayGoOn};
 
 use crate::beginning::begin;
 use crate::choosing::choose;
 use crate::dropping::lose_connection;
-use crate::end::RecvEnd;
-use crate::idling::Idling;
+use crate::serving::{served, starved};
 use crate::taking::take;
 use std::alloc::Global;
 use wdt_depot::Depot;
 use wdt_log::Log;
-use wdt_receiver_fsm::{RecvAct, RecvIn, RecvRow, RecvState, row, steps_follow_their_rows};
+use wdt_receiver_fsm::{
+    Idling, RecvAct, RecvEnd, RecvIn, RecvRow, RecvState, row, steps_follow_their_rows,
+};
 use wdt_units::{Lane, NoMemory};
 use wdt_writer::Writer;
 
@@ -58,10 +60,12 @@ pub fn turn<D: Depot>(
 
     // At each moment, inside each call too, each image is good for the tree and for what was logged
     // before; and behind it the end and its disk are good for the tree.
-    ensures images { (T : List File) → IfTold (λ t. DockGood T (plain_of end.old log.old writer.old) t.now) (D.state depot.old).told → GoodSince T [] (D.state depot.old).told (D.state depot.new).told }
-    ensures good { (T : List File) → PutOf T (plain_of end.old log.old writer.old) lane (Given input.now) → IfTold (λ t. DockGood T (plain_of end.old log.old writer.old) t.now) (D.state depot.old).told → IfTold (λ t. DockGood T (plain_of end.new log.new writer.new) t.now) (D.state depot.new).told }
+    ensures images { (T : List File) → IsGoodFor T (plain_of end.old log.old writer.old) (D.state depot.old) → GoodSince T [] (D.state depot.old).told (D.state depot.new).told }
+    ensures good { (T : List File) → PutOf T (plain_of end.old log.old writer.old) lane (Given input.now) →
+        IsGoodFor T (plain_of end.old log.old writer.old) (D.state depot.old) → IsGoodFor T (plain_of end.new log.new writer.new) (D.state depot.new) }
 
     ensures untouched { is_failure (end.old).answer ≡ true → D.state depot.new ≡ D.state depot.old }
+    ensures spares { Between (Spares (IsOther (writer.old).known (Given input.now)) (writer.old).files) (D.state depot.old).told (D.state depot.new).told }
     ensures counts { Counts (LosesDisk (end.old).answer (end.new).answer) (D.state depot.old) (D.state depot.new) }
     ensures slips { (T : List File) → IfTold (λ t. DockGood T (plain_of end.old log.old writer.old) t.now → (D.state depot.new).slips ≡ (D.state depot.old).slips) (D.state depot.old).told }
 {
@@ -70,7 +74,7 @@ pub fn turn<D: Depot>(
     let row = row(end.lane(lane), input);
     match row {
         RecvRow::Over => Ok(RecvAct::Stop),
-        RecvRow::Starved { mute } => Ok(end.starved(lane, mute)),
+        RecvRow::Starved { mute } => Ok(starved(end, lane, mute)),
         row => {
             if end.has_failed() {
                 return Ok(end.give_up(lane, row.is_mute()));
@@ -110,12 +114,13 @@ pub fn turn_piece<D: Depot>(
     ensures rest { IsAtRest end.new log.new (D.state depot.new) }
 
     // Bytes that are the tree's: other bytes of a block that lands here would be logged.
-    ensures images { (T : List File) → PutOf T (plain_of end.old log.old writer.old) lane (Bytes bytes.now) → IfTold (λ t. DockGood T (plain_of end.old log.old writer.old) t.now) (D.state depot.old).told →
+    ensures images { (T : List File) → PutOf T (plain_of end.old log.old writer.old) lane (Bytes bytes.now) → IsGoodFor T (plain_of end.old log.old writer.old) (D.state depot.old) →
         GoodSince T [] (D.state depot.old).told (D.state depot.new).told }
-    ensures good { (T : List File) → PutOf T (plain_of end.old log.old writer.old) lane (Bytes bytes.now) → IfTold (λ t. DockGood T (plain_of end.old log.old writer.old) t.now) (D.state depot.old).told →
-        IfTold (λ t. DockGood T (plain_of end.new log.new writer.new) t.now) (D.state depot.new).told }
+    ensures good { (T : List File) → PutOf T (plain_of end.old log.old writer.old) lane (Bytes bytes.now) → IsGoodFor T (plain_of end.old log.old writer.old) (D.state depot.old) →
+        IsGoodFor T (plain_of end.new log.new writer.new) (D.state depot.new) }
 
     ensures untouched { is_failure (end.old).answer ≡ true → D.state depot.new ≡ D.state depot.old }
+    ensures spares { Between (Spares (IsBeside (writer.old).known) (writer.old).files) (D.state depot.old).told (D.state depot.new).told }
     ensures counts { Counts (LosesDisk (end.old).answer (end.new).answer) (D.state depot.old) (D.state depot.new) }
     ensures slips { (T : List File) → IfTold (λ t. DockGood T (plain_of end.old log.old writer.old) t.now → (D.state depot.new).slips ≡ (D.state depot.old).slips) (D.state depot.old).told }
 {
@@ -150,8 +155,10 @@ fn serve<D: Depot>(
     ensures memory { OnErr result (plain_of end.new log.new writer.new ≡ plain_of end.old log.old writer.old) }
     ensures desk { IsDesk end.new log.new writer.new }
     ensures rest { IsAtRest end.new log.new (D.state depot.new) }
-    ensures images { (T : List File) → IfTold (λ t. DockGood T (plain_of end.old log.old writer.old) t.now) (D.state depot.old).told → GoodSince T [] (D.state depot.old).told (D.state depot.new).told }
-    ensures good { (T : List File) → IsTreesRow T (shown row.entry) → IfTold (λ t. DockGood T (plain_of end.old log.old writer.old) t.now) (D.state depot.old).told → IfTold (λ t. DockGood T (plain_of end.new log.new writer.new) t.now) (D.state depot.new).told }
+    ensures images { (T : List File) → IsGoodFor T (plain_of end.old log.old writer.old) (D.state depot.old) → GoodSince T [] (D.state depot.old).told (D.state depot.new).told }
+    ensures good { (T : List File) → IsTreesRow T (shown row.entry) → IsGoodFor T (plain_of end.old log.old writer.old) (D.state depot.old) →
+        IsGoodFor T (plain_of end.new log.new writer.new) (D.state depot.new) }
+    ensures spares { Between (Spares (IsOtherRow (writer.old).known (shown row.entry)) (writer.old).files) (D.state depot.old).told (D.state depot.new).told }
     ensures counts { Counts (LosesDisk (end.old).answer (end.new).answer) (D.state depot.old) (D.state depot.new) }
     ensures slips { (T : List File) → IfTold (λ t. DockGood T (plain_of end.old log.old writer.old) t.now → (D.state depot.new).slips ≡ (D.state depot.old).slips) (D.state depot.old).told }
 {
@@ -173,6 +180,6 @@ fn serve<D: Depot>(
             end.prepare()?;
             choose(alloc, depot, log, writer, end, lane, Idling::Woken)
         }
-        row => end.served(alloc, lane, row),
+        row => served(alloc, end, lane, row),
     }
 }

@@ -4,8 +4,7 @@ ghost use Rattle.wdt_log.specs.OpenLog.{OpenLog};
 ghost use Rattle.wdt_dock.specs.Desk.{IsDesk, plain_of};
 ghost use Rattle.wdt_dock.specs.Dock.{wanted};
 
-use crate::end::RecvEnd;
-use wdt_receiver_fsm::RecvState;
+use wdt_receiver_fsm::{RecvEnd, RecvState};
 use wdt_units::{Lane, Name, PIECE};
 use wdt_writer::Writer;
 

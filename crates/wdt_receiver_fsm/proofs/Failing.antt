@@ -104,6 +104,32 @@ module _ (r : PlainReceiver) (l : Lane) (put : Put) where
     waits_sound t true calm = judged_fails t.answer _ _ ∙ calm
     waits_sound t false calm = judged_fails t.answer _ _ ∙ calm
 
+    -- the outcome is that the end fails
+    abbrev pub is_failed : Outcome → Bool
+    is_failed (Failed t a mute) = true
+    is_failed o = false
+
+    -- no other makes it fail
+    pub outcome_sound : (o : Outcome) → is_failed o ≡ false → ComesOf r l put o → Sound (came_to r l o).1
+    outcome_sound Rested other of = sound
+    outcome_sound Left other of = judged_fails r.answer _ _ ∙ sound
+    outcome_sound Warned other of = absurd (both_ways _ sound of.1.failed)
+    outcome_sound (Failed t a mute) other of = absurd (cc)
+    outcome_sound (GivenUp t) other of = judged_fails t.answer _ _ ∙ listens_sound t of.0
+    outcome_sound (Listened t) other of = judged_fails t.answer _ _ ∙ listens_sound t of.0
+    outcome_sound Linked other of = judged_fails r.answer _ _ ∙ sound
+    outcome_sound (Greeted s) other of = greets_sound (meets r l s) s (has_finish r) (meets_sound s (is_some (end_of r.history).met))
+    outcome_sound Listed other of = judged_fails r.answer _ _ ∙ sound
+    outcome_sound (ReadOn t) other of = judged_fails t.answer _ _ ∙ reads_sound t of
+    outcome_sound (Sized files bytes) other of = judged_fails (sized_by r l files bytes (is_some (end_of r.history).sized)).answer _ _ ∙ sized_sound files bytes (is_some (end_of r.history).sized)
+    outcome_sound (Begun t b) other of = begun_sound t b b.length (begins_sound t b of)
+    outcome_sound (Taken left) other of = judged_fails r.answer _ _ ∙ sound
+    outcome_sound (Concluded t) other of = judged_fails t.answer _ _ ∙ concludes_sound t of
+    outcome_sound (Told t q qs) other of = judged_fails t.answer _ _ ∙ idles_sound t of.idles
+    outcome_sound (Waited t again) other of = waits_sound t again (idles_sound t of.0.idles)
+    outcome_sound Ended other of = judged_fails r.answer _ _ ∙ sound
+    outcome_sound Acknowledged other of = judged_fails r.answer _ _ ∙ sound
+
     abbrev Caused : Step → Type 0
     Caused step = IsCause r l put step.1 step.1.answer
 

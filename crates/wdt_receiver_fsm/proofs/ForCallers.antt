@@ -14,14 +14,20 @@ use Rattle.wdt_receiver_fsm.specs.Plan.{EndsIn, Plan, PlanRan, calls, ends, run_
 use Rattle.wdt_receiver_fsm.specs.PlainReceiver.{PlainReceiver, goes, is_batch_full, lane_at}
 use Rattle.wdt_receiver_fsm.specs.Rows.{Piece, Row}
 use Rattle.wdt_receiver_fsm.specs.Turn.{Step, disk_fails, logs, logs_by, next_place, piece_by, piece_of, reads, reads_on, takes_piece}
+-- a result, from what holds of it otherwise
+pub use Rattle.wdt_receiver_fsm.proofs.Results.{if_ok}
 -- steps by their rows, and as outcomes
 pub use Rattle.wdt_receiver_fsm.proofs.RowSteps.{Chooses, chooses, failed_step, misspeaks_step, over_step, row_step, settled_step, short_told, starved_step}
 pub use Rattle.wdt_receiver_fsm.proofs.Comes.{end_comes}
+-- when a lane stops, or waits
+pub use Rattle.wdt_receiver_fsm.proofs.Parking.{park_why, parks_act}
+pub use Rattle.wdt_receiver_fsm.proofs.Stopping.{step_stops}
 -- what steps keep
+pub use Rattle.wdt_receiver_fsm.proofs.Answered.{answered_done, answered_link, logged_answered, lost_answered, opened_answered, turn_answered}
 pub use Rattle.wdt_receiver_fsm.proofs.Batching.{flush_batched, landed_more, landed_same, marks_follow, marks_logged, opened_batched, turn_batched}
 pub use Rattle.wdt_receiver_fsm.proofs.Failing.{turn_follows}
 pub use Rattle.wdt_receiver_fsm.proofs.HeldActs.{lane_set, turn_acts}
-pub use Rattle.wdt_receiver_fsm.proofs.Marking.{landed_named, landed_there}
+pub use Rattle.wdt_receiver_fsm.proofs.Marking.{landed_named, landed_there, there_stays}
 pub use Rattle.wdt_receiver_fsm.proofs.Receiving.{opened_is, turn_keeps}
 pub use Rattle.wdt_receiver_fsm.proofs.Touching.{turn_touches}
 -- what lanes say, and what is said of them

@@ -151,7 +151,7 @@ sized_so r l files bytes false here within =
 pub still : (r t : PlainReceiver) (l : Lane) → length t.lanes ≡ length r.lanes → l.0 < length r.lanes → l.0 < length t.lanes
 still r t l many within = subst (λ (n : ℕ). l.0 < n) (sym many) within
 
-abbrev is_rest : Outcome → Bool
+abbrev pub is_rest : Outcome → Bool
 is_rest Rested = true
 is_rest o = false
 

@@ -1,5 +1,7 @@
+mod Answered
 mod Batching
 mod Comes
+mod Ending
 mod Entries
 mod Failing
 pub mod ForCallers
@@ -8,13 +10,18 @@ mod Judged
 mod Keeping
 mod Keeps
 mod LaneLists
+mod Living
 mod Marking
+mod Parking
 mod Receiving
+mod Results
 mod RowSteps
 mod Sets
 mod Sound
 mod Speaking
+mod Stopping
 mod Talking
+mod Telling
 mod Tallying
 mod Tellers
 mod Touching

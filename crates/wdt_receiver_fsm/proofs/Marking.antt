@@ -1,5 +1,5 @@
 -- Each block that landed is there: its file is named, and each of its positions.
-use Rattle.std.proofs.Common.{◌≡◌, ℕ, zero, suc, ◌+◌, ◌<◌, ◌≤◌, ◌==◌, ◌||◌, nat_le, nat_lt, List, [], ◌∷◌, map, Bool, true, false, if◌then◌else◌, Some, slice_get, subst, sym, ap, ◌∙◌, refl, arith, eq-eqb, eqb-true}
+use Rattle.std.proofs.Common.{◌≡◌, ℕ, zero, suc, ◌+◌, ◌<◌, ◌≤◌, ◌==◌, ◌||◌, nat_le, nat_lt, List, [], ◌∷◌, ◌++◌, map, Bool, true, false, if◌then◌else◌, Some, slice_get, subst, sym, ap, ◌∙◌, refl, arith, append-nil, append_assoc, eq-eqb, eqb-true}
 use Rattle.std.specs.List.{list_all}
 use Rattle.std.proofs.lemmas.Bool.{and_parts, both_ways, ne_eqb}
 use Rattle.std.proofs.lemmas.Bool.Decides.{nat_tests}
@@ -11,6 +11,13 @@ use Rattle.wdt_logfmt.specs.Adding.{joined, span_at, with_span}
 use Rattle.wdt_logfmt.specs.Marks.{Marked, block_spans, is_marked, is_there, just_marked, mark_block, marked_of, marks_from, marks_of, spans_at, with_block}
 use Rattle.wdt_logfmt.specs.View.{NamedFile, is_numbered_above, is_rising, is_view}
 use Rattle.wdt_logfmt.proofs.ForCallers.{view_parts}
+use Rattle.wdt_units.specs.declared.numbers.Lane.{Lane}
+use Rattle.wdt_receiver_fsm.specs.declared.events.RecvEvent.{RecvEvent}
+use Rattle.wdt_receiver_fsm.specs.declared.events.RecvEvent.TheVariants as events
+use Rattle.wdt_receiver_fsm.specs.PlainReceiver.{PlainReceiver, marks_at}
+use Rattle.wdt_receiver_fsm.specs.ReceiverHistory.{begun_list, landed_of, past_of}
+use Rattle.wdt_receiver_fsm.specs.Touches.{Adds, StaysThere}
+use Rattle.wdt_receiver_fsm.proofs.Batching.{landed_more, landed_same}
 
 -- ---- each landed block's file is named
 
@@ -208,3 +215,36 @@ there_from ms (c ∷ bs) (suc k) b p up is at = there_from (mark_block ms c) bs 
 pub landed_there : (fs : List NamedFile) (bs : List Block) (k : ℕ) (b : Block) (p : ℕ) → is_view fs ≡ true → slice_get bs k ≡ Some b → b.offset ≤ p → p < b.offset + b.length → is_there (marks_of fs bs) b.file p ≡ true
 unfolding marks_of Within
 landed_there fs bs k b p view is low high = there_from (map marked_of fs) bs k b p (rises_all fs (view_parts fs view).rising) is (low, high)
+
+-- ---- what is there stays there
+
+-- further entries let further blocks land
+landed_one : (g : List RecvEvent) (e : RecvEvent) → (more : List Block) × (landed_of (g ++ e ∷ []) ≡ landed_of g ++ more)
+landed_one g (events.Land l) = (begun_list (past_of g l.0).begun, landed_more g l)
+landed_one g e = ([], landed_same g e refl ∙ sym (append-nil (landed_of g)))
+
+landed_all : (g es : List RecvEvent) → (more : List Block) × (landed_of (g ++ es) ≡ landed_of g ++ more)
+landed_all g [] = ([], ap landed_of (append-nil g) ∙ sym (append-nil (landed_of g)))
+landed_all g (e ∷ es) =
+    let one = landed_one g e in
+    let rest = landed_all (g ++ e ∷ []) es in (
+      one.0 ++ rest.0,
+      ap landed_of (sym (append_assoc g (e ∷ []) es)) ∙ rest.1 ∙ ap (λ (bs : List Block). bs ++ rest.0) one.1 ∙ append_assoc (landed_of g) one.0 rest.0,
+    )
+
+marks_more : (ms : List Marked) (bs cs : List Block) → marks_from ms (bs ++ cs) ≡ marks_from (marks_from ms bs) cs
+marks_more ms [] cs = refl
+marks_more ms (b ∷ bs) cs = marks_more (mark_block ms b) bs cs
+
+marks_behind : (fs : List NamedFile) (bs cs : List Block) → marks_of fs (bs ++ cs) ≡ marks_from (marks_of fs bs) cs
+unfolding marks_of
+marks_behind fs bs cs = marks_more (map marked_of fs) bs cs
+
+pub there_stays : (r t : PlainReceiver) (l : Lane) (files : List NamedFile) → t.opening ≡ r.opening → Adds l r.history t.history → marks_at r ≡ map marked_of files → is_view files ≡ true → StaysThere r t
+there_stays r t l files opening adds marks view number position there =
+    let more = landed_all r.history adds.entries in
+    let behind : marks_at t ≡ marks_from (marks_at r) more.0 =
+    ap (λ (fs : List NamedFile). marks_of fs (landed_of t.history)) opening ∙ ap (λ (g : List RecvEvent). marks_of r.opening (landed_of g)) adds.behind
+    ∙ ap (λ (bs : List Block). marks_of r.opening bs) more.1 ∙ marks_behind r.opening (landed_of r.history) more.0 in
+    ap (λ (ms : List Marked). is_there ms number position) behind
+    ∙ there_on (marks_at r) more.0 number position (subst (λ (ms : List Marked). Rises 0 ms) (sym marks) (rises_all files (view_parts files view).rising)) there

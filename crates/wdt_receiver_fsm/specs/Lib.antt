@@ -1,8 +1,12 @@
 pub mod Acts
+pub mod Answered
 pub mod Batched
 pub mod Causes
+pub mod End
+pub mod EndInside
 pub mod Frames
 pub mod Happened
+pub mod Idling
 pub mod Kept
 pub mod Legal
 pub mod Logging
@@ -16,6 +20,7 @@ pub mod Receiver
 pub mod ReceiverHistory
 pub mod Rows
 pub mod Sets
+pub mod Stops
 pub mod Tallies
 pub mod Touches
 pub mod Turn

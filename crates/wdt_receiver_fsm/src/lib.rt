@@ -12,11 +12,16 @@
 //! `Notes` are a history that answers at once what the definitions read off all of it: they keep a tally of
 //! each lane, what is said of the whole end, and a funnel (`wdt_funnel`), and their invariant is that the
 //! history says the same.
+//!
+//! `RecvEnd` is a receiver's end without its files: its lanes, its notes and its answer. Its calls are the
+//! steps of the table's rows that make no call on the disk, whatever is kept of the files (`specs/End`).
 #![tactic(auto)]
 
 mod acts;
 mod common;
+mod end;
 mod events;
+mod idling;
 mod inputs;
 mod laws;
 mod note_laws;
@@ -27,7 +32,9 @@ mod states;
 mod tally;
 
 pub use acts::RecvAct;
+pub use end::RecvEnd;
 pub use events::RecvEvent;
+pub use idling::Idling;
 pub use inputs::RecvIn;
 pub use laws::{
     a_receiver_speaks_in_turn, acts_follow_from_lanes, batches_add_up, failures_have_causes,

@@ -1,5 +1,5 @@
 //! The steps of a receiver's end with its files.
-ghost use Rattle.std.specs.Prelude.{◌≡◌, ◌<◌, ◌≤◌, [], List, length, true, IfErr, IfOk, OnErr};
+ghost use Rattle.std.specs.Prelude.{◌≡◌, ◌↔◌, ◌<◌, ◌≤◌, [], List, length, true, IfErr, IfOk, OnErr};
 ghost use Rattle.wdt_units.specs.declared.limits.TheConstants.{PIECE};
 ghost use Rattle.wdt_units.specs.Tree.{File};
 ghost use Rattle.wdt_depot.specs.Moments.{IfTold};
@@ -9,13 +9,17 @@ ghost use Rattle.wdt_sender_fsm.specs.Rules.{is_failure};
 ghost use Rattle.wdt_receiver_fsm.specs.Acts.{IsActOf};
 ghost use Rattle.wdt_receiver_fsm.specs.Batched.{IsBatched};
 ghost use Rattle.wdt_receiver_fsm.specs.Causes.{Follows};
+ghost use Rattle.wdt_receiver_fsm.specs.Logging.{log_after};
 ghost use Rattle.wdt_receiver_fsm.specs.Outcomes.{Comes};
 ghost use Rattle.wdt_receiver_fsm.specs.PlainReceiver.{lane_at, state_at};
 ghost use Rattle.wdt_receiver_fsm.specs.Receiver.{IsReceiver};
+ghost use Rattle.wdt_receiver_fsm.specs.Stops.{Parks, is_stop, is_through, stops};
+ghost use Rattle.wdt_receiver_fsm.specs.Touches.{StaysThere};
 ghost use Rattle.wdt_receiver_fsm.specs.Turn.{Bytes, Given, recv_plan, take_plan};
 ghost use Rattle.wdt_receiver_fsm.specs.Writes.{FitsPut};
-ghost use Rattle.wdt_dock.specs.DockGood.{DockGood, PutOf};
+ghost use Rattle.wdt_dock.specs.DockGood.{DockGood, IsGoodFor, PutOf};
 ghost use Rattle.wdt_dock.specs.DockView.{LosesDisk, TurnRan, Turns};
+ghost use Rattle.wdt_dock.specs.Sparing.{Between, IsOther, LeavesCovered, LeavesOthers};
 
 use crate::dock::Dock;
 use crate::turning::{turn, turn_piece};
@@ -47,11 +51,20 @@ impl<D: Depot + Drop> Dock<D> {
         ensures acts { IfOk result (λ act. IsActOf self.old.plain lane (act, self.new.plain)) }
         ensures follows { IfOk result (λ _. Follows self.old.plain lane (Given put) self.new.plain) }
 
+        // Why the lane does nothing more, and why it waits.
+        ensures stops { IfOk result (λ act. is_stop act ≡ stops (state_at self.old.plain lane.0) (Given put) (is_through self.new.plain lane.0) (is_failure self.new.plain.answer)) }
+        ensures parks { IfOk result (λ act. (act ≡ RecvAct.Park) ↔ Parks self.old.plain lane (Given put)) }
+
         // At each moment, inside each call too, each image is good for the tree and for what was logged
         // before; and behind it the end and its disk are good for the tree.
-        ensures images { (T : List File) → IfTold (λ t. DockGood T self.old.plain t.now) (D.state self.old.depot).told → GoodSince T [] (D.state self.old.depot).told (D.state self.new.depot).told }
-        ensures good { (T : List File) → PutOf T self.old.plain lane (Given put) → IfTold (λ t. DockGood T self.old.plain t.now) (D.state self.old.depot).told →
-            IfTold (λ t. DockGood T self.new.plain t.now) (D.state self.new.depot).told }
+        ensures images { (T : List File) → IsGoodFor T self.old.plain (D.state self.old.depot) → GoodSince T [] (D.state self.old.depot).told (D.state self.new.depot).told }
+        ensures good { (T : List File) → PutOf T self.old.plain lane (Given put) → IsGoodFor T self.old.plain (D.state self.old.depot) →
+            IsGoodFor T self.new.plain (D.state self.new.depot) }
+
+        // What else is read stays as it is. Each position that is covered stays so, with its byte.
+        ensures others { Between (LeavesOthers (IsOther self.old.plain.known (Given put))) (D.state self.old.depot).told (D.state self.new.depot).told }
+        ensures covered { Between (LeavesCovered (log_after self.old.plain).files) (D.state self.old.depot).told (D.state self.new.depot).told }
+        ensures stays { StaysThere self.old.plain self.new.plain }
 
         ensures untouched { is_failure self.old.plain.answer ≡ true → D.state self.new.depot ≡ D.state self.old.depot }
         ensures spots { (D.state self.new.depot).spots ≡ [] }
@@ -101,12 +114,18 @@ impl<D: Depot + Drop> Dock<D> {
         ensures comes { IfOk result (λ act. Comes self.old.plain lane (Bytes bytes.now) (act, self.new.plain)) }
         ensures acts { IfOk result (λ act. IsActOf self.old.plain lane (act, self.new.plain)) }
         ensures follows { IfOk result (λ _. Follows self.old.plain lane (Bytes bytes.now) self.new.plain) }
+        ensures stops { IfOk result (λ act. is_stop act ≡ stops (state_at self.old.plain lane.0) (Bytes bytes.now) (is_through self.new.plain lane.0) (is_failure self.new.plain.answer)) }
 
         // Bytes that are the tree's: other bytes of a block that lands here would be logged.
-        ensures images { (T : List File) → PutOf T self.old.plain lane (Bytes bytes.now) → IfTold (λ t. DockGood T self.old.plain t.now) (D.state self.old.depot).told →
+        ensures images { (T : List File) → PutOf T self.old.plain lane (Bytes bytes.now) → IsGoodFor T self.old.plain (D.state self.old.depot) →
             GoodSince T [] (D.state self.old.depot).told (D.state self.new.depot).told }
-        ensures good { (T : List File) → PutOf T self.old.plain lane (Bytes bytes.now) → IfTold (λ t. DockGood T self.old.plain t.now) (D.state self.old.depot).told →
-            IfTold (λ t. DockGood T self.new.plain t.now) (D.state self.new.depot).told }
+        ensures good { (T : List File) → PutOf T self.old.plain lane (Bytes bytes.now) → IsGoodFor T self.old.plain (D.state self.old.depot) →
+            IsGoodFor T self.new.plain (D.state self.new.depot) }
+
+        // What else is read stays as it is. Each position that is covered stays so, with its byte.
+        ensures others { Between (LeavesOthers (IsOther self.old.plain.known (Bytes bytes.now))) (D.state self.old.depot).told (D.state self.new.depot).told }
+        ensures covered { Between (LeavesCovered (log_after self.old.plain).files) (D.state self.old.depot).told (D.state self.new.depot).told }
+        ensures stays { StaysThere self.old.plain self.new.plain }
 
         ensures untouched { is_failure self.old.plain.answer ≡ true → D.state self.new.depot ≡ D.state self.old.depot }
         ensures spots { (D.state self.new.depot).spots ≡ [] }

@@ -1,5 +1,6 @@
-use Rattle.std.proofs.Common.{ℕ, ◌+◌, Ok, refl, sym, ap, ◌∙◌, subst}
+use Rattle.std.proofs.Common.{ℕ, ◌+◌, Ok, Err, refl, sym, ap, ◌∙◌, subst}
 use Rattle.wdt_units.specs.Counts.{Rises}
+use Rattle.wdt_units.specs.declared.blocks.Block.{Block}
 use Rattle.wdt_depot.specs.Programs.{drive_of}
 use Rattle.wdt_sender_fsm.specs.declared.peers.PeerKind.TheVariants as peers
 use Rattle.wdt_writer.specs.declared.fail.WriteFail.TheVariants as fails
@@ -15,9 +16,12 @@ use Rattle.wdt_dock.proofs.Begins.{begun_ran, begun_turns, limit_ran, limit_turn
 use Rattle.wdt_dock.proofs.Choices.{counts_none, desk_after}
 use Rattle.wdt_dock.proofs.Goodness.{told_stays}
 use Rattle.wdt_dock.proofs.Keeping.{Stays, not_lost}
-use Rattle.wdt_dock.proofs.Results.{if_ok}
+use Rattle.wdt_receiver_fsm.proofs.ForCallers.{if_ok}
 use Rattle.wdt_dock.proofs.Starts.{failed_counts, failed_desk, failed_good, fault_sound, fault_stays, is_err, leaves_failed, leaves_used, new_by, none_by, ok_disk, ok_not, plain_kept, started_desk, started_good, started_said, started_sound}
 use Rattle.wdt_dock.proofs.Waiting.{counts_same, same_behind}
+use Rattle.wdt_receiver_fsm.specs.Rows.{Block as BlockRead}
+use Rattle.wdt_dock.specs.Sparing.{IsOtherRow}
+use Rattle.wdt_dock.proofs.Sparing.{begun_spares, spares_same}
 use Rattle.wdt_dock.proofs.beginning.begin.Goals as goal
 
 -- ---- no more blocks may land on the lane
@@ -325,3 +329,14 @@ returns-in-Err-clause-counts g c =
     let by = c.in-Err.ensures in
     let sound = not_lost e.answer c.requires.sound in
     failed_counts e log w l h c.requires.desk sound s0 s1 c.requires.rest w2 by.unchanged fail by.refused by.untouched by.disk _ f c.requires.lane c.refuse.result c.refuse.ensures.refused c.refuse.ensures.unchanged c.refuse.ensures.memory
+
+pub returns-then-landed-ge-MAX_BLOCKS-clause-spares : goal.returns-then-landed-ge-MAX_BLOCKS-clause-spares
+returns-then-landed-ge-MAX_BLOCKS-clause-spares g c = spares_same (IsOtherRow c.args.writer.now.known (BlockRead c.args.header.now)) c.args.writer.now.files (g.D.Depot.state c.args.depot.now).told
+
+pub returns-in-Ok-clause-spares : goal.returns-in-Ok-clause-spares
+returns-in-Ok-clause-spares g c =
+    begun_spares {E = Block} c.args.log.now c.args.writer.now c.requires.desk.books c.args.header.now (Ok c.in-Ok.block) (g.D.Depot.state c.args.depot.now) (g.D.Depot.state c.start.new.depot) c.in-Ok.ensures.untouched (λ none. (c.in-Ok.ensures.disk none).step)
+
+pub returns-in-Err-clause-spares : goal.returns-in-Err-clause-spares
+returns-in-Err-clause-spares g c =
+    begun_spares {E = Block} c.args.log.now c.args.writer.now c.requires.desk.books c.args.header.now (Err c.in-Err.fail) (g.D.Depot.state c.args.depot.now) (g.D.Depot.state c.start.new.depot) c.in-Err.ensures.untouched (λ none. (c.in-Err.ensures.disk none).step)

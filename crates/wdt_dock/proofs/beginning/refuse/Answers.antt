@@ -1,7 +1,7 @@
 use Rattle.std.proofs.Common.{sym, subst}
 use Rattle.wdt_writer.specs.declared.fail.WriteFail.{WriteFail}
 use Rattle.wdt_dock.specs.Beginning.{IsRefused}
-use Rattle.wdt_dock.specs.End.{plain_with}
+use Rattle.wdt_receiver_fsm.specs.End.{plain_with}
 use Rattle.wdt_dock.proofs.beginning.refuse.Goals as goal
 
 pub returns-in-Disk-clause-refused : goal.returns-in-Disk-clause-refused

@@ -13,6 +13,8 @@ use Rattle.wdt_dock.proofs.Goodness.{told_stays}
 use Rattle.wdt_dock.proofs.Keeping.{not_lost}
 use Rattle.wdt_dock.proofs.Waiting.{counts_same, done_kept, done_ran, done_sound, done_turns, idled_closed, plan_finish, same_behind, tells_kept, tells_ran, tells_sound, tells_turns}
 use Rattle.std.proofs.Common.{refl}
+use Rattle.wdt_dock.specs.Sparing.{IsBeside}
+use Rattle.wdt_dock.proofs.Sparing.{spares_same}
 use Rattle.wdt_dock.proofs.choosing.choose.Goals as goal
 
 pub returns-then-has_finish-clause-turns : goal.returns-then-has_finish-clause-turns
@@ -107,3 +109,9 @@ returns-clause-counts g c =
     let books = books_of log w in
     counts_same _ (g.D.Depot.state c.args.depot.now)
     (λ lost. tells_sound c.args.end.now log w c.args.way c.args.lane c.requires.lane c.be_idle-2.new.self c.tell_or_wait.new.self c.tell_or_wait.result (c.be_idle-2.ensures.plain books) (sym c.has_finish.ensures ∙ c.if-has_finish.false) (sym c.is_ready_by.ensures ∙ c.if-is_ready_by.false) (c.tell_or_wait.ensures books) lost.0 lost.1)
+
+pub returns-then-has_finish-clause-spares : goal.returns-then-has_finish-clause-spares
+returns-then-has_finish-clause-spares g c = spares_same (IsBeside c.args.writer.now.known) c.args.writer.now.files (g.D.Depot.state c.args.depot.now).told
+
+pub returns-clause-spares : goal.returns-clause-spares
+returns-clause-spares g c = spares_same (IsBeside c.args.writer.now.known) c.args.writer.now.files (g.D.Depot.state c.args.depot.now).told

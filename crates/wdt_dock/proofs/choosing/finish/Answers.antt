@@ -5,6 +5,7 @@ use Rattle.wdt_dock.proofs.Choices.{counts_lost, counts_none, desk_after, disk_o
 use Rattle.wdt_dock.proofs.Finishing.{finish_ran, finish_turns, lost_ran, lost_turns, short_is}
 use Rattle.wdt_dock.proofs.Goodness.{booked, files_behind_are, told_after, told_lost}
 use Rattle.wdt_dock.proofs.Keeping.{not_lost}
+use Rattle.wdt_dock.proofs.Sparing.{reads_spare}
 use Rattle.wdt_dock.proofs.choosing.finish.Goals as goal
 
 pub returns-in-Ok-clause-turns : goal.returns-in-Ok-clause-turns
@@ -142,3 +143,12 @@ returns-in-Err-NoMemory-clause-good g c = λ T good.
     (same_stays (plain_of e log w) (plain_of e log2 w2) (kept_plain e log log2 w w2 c.in-Err-NoMemory.ensures.meaning c.in-Err-NoMemory.ensures.kept))
     c.log_all.ensures.known (files_behind_are e log2 w2 c.log_all.ensures.books ∙ c.log_all.ensures.files) c.log_all.ensures.reads
     (c.log_all.ensures.images T (booked T e log w s0 c.requires.desk.books (c.requires.rest.rests sound) sound good)) good
+
+pub returns-in-Ok-clause-spares : goal.returns-in-Ok-clause-spares
+returns-in-Ok-clause-spares g c = reads_spare c.args.log.now c.args.writer.now c.requires.desk.books (g.D.Depot.state c.args.depot.now).told (g.D.Depot.state c.log_all.new.depot).told c.log_all.ensures.reads
+
+pub returns-in-Err-Disk-clause-spares : goal.returns-in-Err-Disk-clause-spares
+returns-in-Err-Disk-clause-spares g c = reads_spare c.args.log.now c.args.writer.now c.requires.desk.books (g.D.Depot.state c.args.depot.now).told (g.D.Depot.state c.log_all.new.depot).told c.log_all.ensures.reads
+
+pub returns-in-Err-NoMemory-clause-spares : goal.returns-in-Err-NoMemory-clause-spares
+returns-in-Err-NoMemory-clause-spares g c = reads_spare c.args.log.now c.args.writer.now c.requires.desk.books (g.D.Depot.state c.args.depot.now).told (g.D.Depot.state c.log_all.new.depot).told c.log_all.ensures.reads

@@ -1,10 +1,10 @@
-use Rattle.std.proofs.Common.{sym, ap, ◌∙◌, subst}
+use Rattle.std.proofs.Common.{Err, sym, ap, ◌∙◌, subst}
 use Rattle.std.proofs.lemmas.Bool.{both_ways}
 use Rattle.wdt_dock.specs.Desk.{plain_of}
 use Rattle.wdt_dock.specs.DockView.{HasLostDisk}
-use Rattle.wdt_dock.specs.End.{EndView}
+use Rattle.wdt_receiver_fsm.specs.End.{EndView}
 use Rattle.wdt_dock.proofs.Choices.{kept_plain, lost_answer, same_stays}
-use Rattle.wdt_dock.proofs.Flushed.{continues, logged_dock, same_logged}
+use Rattle.wdt_dock.proofs.Flushed.{continues, kept_dock, logged_dock, lost_dock, same_logged}
 use Rattle.wdt_dock.proofs.Goodness.{booked, files_behind_are, told_after, told_lost}
 use Rattle.wdt_dock.proofs.flushing.flush.Goals as goal
 
@@ -54,3 +54,13 @@ returns-in-Err-NoMemory-clause-good g c = λ T good.
     (same_stays (plain_of e log w) (plain_of e log2 w2) (kept_plain e log log2 w w2 c.in-Err-NoMemory.ensures.meaning c.in-Err-NoMemory.ensures.kept))
     c.log_all.ensures.known (files_behind_are e log2 w2 c.log_all.ensures.books ∙ c.log_all.ensures.files) c.log_all.ensures.reads
     (c.log_all.ensures.images T (booked T e log w s0 c.requires.desk.books (c.requires.rest.rests sound) sound good)) good
+
+pub returns-in-Err-Disk-clause-dock : goal.returns-in-Err-Disk-clause-dock
+returns-in-Err-Disk-clause-dock g c =
+    lost_dock c.args.end.now c.args.log.now c.log_all.new.log c.args.writer.now c.log_all.new.writer (g.D.Depot.state c.args.depot.now) (g.D.Depot.state c.log_all.new.depot) c.requires
+    c.in-Err-Disk.ensures.meaning c.in-Err-Disk.ensures.kept c.log_all.ensures.books c.log_all.ensures.spots c.fail.new.self c.fail.ensures c.in-Err-Disk.ensures.some
+
+pub returns-in-Err-NoMemory-clause-dock : goal.returns-in-Err-NoMemory-clause-dock
+returns-in-Err-NoMemory-clause-dock g c =
+    kept_dock c.args.end.now c.args.log.now c.log_all.new.log c.args.writer.now c.log_all.new.writer (g.D.Depot.state c.args.depot.now) (g.D.Depot.state c.log_all.new.depot) c.requires
+    c.in-Err-NoMemory.ensures.meaning c.in-Err-NoMemory.ensures.kept c.log_all.ensures.books c.log_all.ensures.spots (c.in-Err-NoMemory.ensures.still_open (ap Err c.in-Err-NoMemory.field-0-is)) (c.in-Err-NoMemory.ensures.memory (ap Err c.in-Err-NoMemory.field-0-is))

@@ -10,6 +10,8 @@ use Rattle.wdt_dock.proofs.Keeping.{not_lost}
 use Rattle.wdt_dock.proofs.LandRow.{back, back_is, begun, block, booked_so, books_now, calls_are, desk_on, fails_drops, fails_is, fails_lost, files_now, full_is, gives, known_now, logs_drops, logs_is, logs_loses, part, parts_now, reads_drops, reads_is, reads_loses, same_plain, short_is, there, unlogged_now}
 use Rattle.wdt_dock.proofs.Landings.{desk_landed, good_later, good_now, land_ran, land_turns, log_ran, log_turns, lose_ran, lose_turns, whole_is_good}
 use Rattle.wdt_dock.proofs.Waiting.{counts_same}
+use Rattle.wdt_dock.specs.Sparing.{IsBeside}
+use Rattle.wdt_dock.proofs.Sparing.{reads_spare, spares_same}
 use Rattle.wdt_dock.proofs.taking.land.Goals as goal
 
 pub unpiece-requires-clause-written : goal.unpiece-requires-clause-written
@@ -417,3 +419,18 @@ returns-in-Err-NoMemory-clause-good g c = λ T whole.
     let same = same_plain e log w l n c.requires.lane c.requires.desk c.requires.begun log2 w2 c.in-Err-NoMemory.ensures.meaning c.unland.new.self back_so c.unpiece-in-Err-NoMemory.ensures in
     told_after T e log2 w2 (plain_of e log2 w2) (g.D.Depot.state c.args.depot.now).told (g.D.Depot.state c.log_all.new.depot).told desk2 sound (same_stays (plain_of e log2 w2) (plain_of e log2 w2) refl) refl (files_behind_are e log2 w2 desk2.books) c.log_all.ensures.reads (c.log_all.ensures.images T (booked_so e log w l n c.requires.lane c.requires.desk c.requires.begun w1 lands T (g.D.Depot.state c.args.depot.now) sound (c.requires.rest.rests sound) whole))
     (subst (λ (r : PlainReceiver). IfTold (λ u. DockGood T r u.now) (g.D.Depot.state c.args.depot.now).told) (sym same) (whole_is_good T (plain_of e log w) l.0 (g.D.Depot.state c.args.depot.now).told whole))
+
+pub returns-in_default-clause-spares : goal.returns-in_default-clause-spares
+returns-in_default-clause-spares g c = spares_same (IsBeside c.args.writer.now.known) c.args.writer.now.files (g.D.Depot.state c.args.depot.now).told
+
+pub returns-then-not-is_full-clause-spares : goal.returns-then-not-is_full-clause-spares
+returns-then-not-is_full-clause-spares g c = spares_same (IsBeside c.args.writer.now.known) c.args.writer.now.files (g.D.Depot.state c.args.depot.now).told
+
+pub returns-in-Ok-log_all-clause-spares : goal.returns-in-Ok-log_all-clause-spares
+returns-in-Ok-log_all-clause-spares g c = reads_spare c.args.log.now c.args.writer.now c.requires.desk.books (g.D.Depot.state c.args.depot.now).told (g.D.Depot.state c.log_all.new.depot).told c.log_all.ensures.reads
+
+pub returns-in-Err-Disk-clause-spares : goal.returns-in-Err-Disk-clause-spares
+returns-in-Err-Disk-clause-spares g c = reads_spare c.args.log.now c.args.writer.now c.requires.desk.books (g.D.Depot.state c.args.depot.now).told (g.D.Depot.state c.log_all.new.depot).told c.log_all.ensures.reads
+
+pub returns-in-Err-NoMemory-clause-spares : goal.returns-in-Err-NoMemory-clause-spares
+returns-in-Err-NoMemory-clause-spares g c = reads_spare c.args.log.now c.args.writer.now c.requires.desk.books (g.D.Depot.state c.args.depot.now).told (g.D.Depot.state c.log_all.new.depot).told c.log_all.ensures.reads

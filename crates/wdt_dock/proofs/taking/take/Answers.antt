@@ -1,10 +1,13 @@
-use Rattle.std.proofs.Common.{arith}
+use Rattle.std.proofs.Common.{arith, subst}
 use Rattle.wdt_depot.specs.Programs.{drive_of}
 use Rattle.wdt_dock.specs.Desk.{plain_of}
 use Rattle.wdt_dock.proofs.Choices.{counts_lost, counts_none}
 use Rattle.wdt_dock.proofs.Goodness.{told_lost}
 use Rattle.wdt_dock.proofs.Keeping.{not_lost}
-use Rattle.wdt_dock.proofs.TakeRow.{badly_only, begun, block, broken_ran, broken_turns, desk_fails, desk_more, fails_lost, fails_said, good_more, joined, left_of, loses_more, more_ran, more_turns, rests_now, short_now, since, slips_landed, slips_only, takes_said, uses, whole_now, written, wrote_badly, wrote_kept, wrote_well}
+use Rattle.wdt_dock.proofs.TakeRow.{badly_only, begun, block, broken_ran, broken_turns, desk_fails, desk_more, fails_lost, fails_said, good_more, joined, left_of, loses_more, more_ran, more_turns, rests_now, short_now, since, slips_landed, slips_only, spares_now, takes_said, uses, whole_now, written, wrote_badly, wrote_kept, wrote_well}
+use Rattle.wdt_writer.specs.PlainWriter.{PlainWriter}
+use Rattle.wdt_dock.specs.Sparing.{Between, IsBeside, Spares}
+use Rattle.wdt_dock.proofs.Sparing.{spares_more}
 use Rattle.wdt_dock.proofs.taking.take.Goals as goal
 
 pub land-requires-clause-desk : goal.land-requires-clause-desk
@@ -279,3 +282,25 @@ returns-in-Err-NoMemory-clause-slips g c = λ T.
     let bs = c.args.bytes.now in
     let sound = not_lost e.answer c.requires.sound in
     slips_only e log w l bs c.requires.lane c.requires.desk c.requires.within c.requires.begun T (g.D.Depot.state c.args.depot.now).slips (g.D.Depot.state c.piece.new.depot).slips (g.D.Depot.state c.args.depot.now).told sound c.piece.ensures.slips
+
+pub returns-in-Ok-clause-spares : goal.returns-in-Ok-clause-spares
+returns-in-Ok-clause-spares g c =
+    spares_now c.args.end.now c.args.log.now c.args.writer.now c.args.lane c.args.bytes.now c.requires.lane c.requires.desk c.requires.within c.requires.begun _ (g.D.Depot.state c.args.depot.now) (g.D.Depot.state c.piece.new.depot) c.in-Ok.ensures.disk
+
+pub returns-in-Err-Disk-clause-spares : goal.returns-in-Err-Disk-clause-spares
+returns-in-Err-Disk-clause-spares g c =
+    spares_now c.args.end.now c.args.log.now c.args.writer.now c.args.lane c.args.bytes.now c.requires.lane c.requires.desk c.requires.within c.requires.begun _ (g.D.Depot.state c.args.depot.now) (g.D.Depot.state c.piece.new.depot) c.in-Err-Disk.ensures.disk
+
+pub returns-in-Err-NoMemory-clause-spares : goal.returns-in-Err-NoMemory-clause-spares
+returns-in-Err-NoMemory-clause-spares g c =
+    spares_now c.args.end.now c.args.log.now c.args.writer.now c.args.lane c.args.bytes.now c.requires.lane c.requires.desk c.requires.within c.requires.begun _ (g.D.Depot.state c.args.depot.now) (g.D.Depot.state c.piece.new.depot) c.in-Err-NoMemory.ensures.disk
+
+pub returns-in-Ok-eq0-clause-spares : goal.returns-in-Ok-eq0-clause-spares
+returns-in-Ok-eq0-clause-spares g c =
+    let w = c.args.writer.now in
+    let a = (g.D.Depot.state c.args.depot.now).told in
+    let b = (g.D.Depot.state c.piece.new.depot).told in
+    let d = (g.D.Depot.state c.land.new.depot).told in
+    spares_more (IsBeside w.known) w.files a b d
+    (spares_now c.args.end.now c.args.log.now c.args.writer.now c.args.lane c.args.bytes.now c.requires.lane c.requires.desk c.requires.within c.requires.begun _ (g.D.Depot.state c.args.depot.now) (g.D.Depot.state c.piece.new.depot) c.in-Ok-eq0.ensures.disk)
+    (subst (λ (x : PlainWriter). Between (Spares (IsBeside x.known) x.files) b d) c.in-Ok-eq0.ensures.taken c.land.ensures.spares)

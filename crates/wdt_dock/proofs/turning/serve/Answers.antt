@@ -8,9 +8,11 @@ use Rattle.wdt_receiver_fsm.specs.Turn.{block_plan, drops, turn_row}
 use Rattle.wdt_dock.specs.Desk.{books_of, plain_of}
 use Rattle.wdt_dock.specs.DockGood.{DockGood}
 use Rattle.wdt_dock.specs.DockView.{LosesDisk, TurnRan, Turns}
-use Rattle.wdt_dock.specs.End.{plain_with}
+use Rattle.wdt_receiver_fsm.specs.End.{plain_with}
 use Rattle.wdt_dock.specs.Serving.{is_of_files}
 use Rattle.wdt_dock.proofs.Quiet.{at_books, counts_still, dropped_loses, err_at, err_same, ok_at, plain_same, quiet_counts, quiet_desk, quiet_good, quiet_images, quiet_ran, quiet_rest, quiet_slips, quiet_turns, served_quiet, told_more}
+use Rattle.wdt_dock.specs.Sparing.{Between, IsBeside, IsOtherRow, Spares}
+use Rattle.wdt_dock.proofs.Sparing.{spares_fewer, spares_same}
 use Rattle.wdt_dock.proofs.turning.serve.Goals as goal
 
 pub returns-in_ok-prepare-in-Done-clause-good : goal.returns-in_ok-prepare-in-Done-clause-good
@@ -86,7 +88,7 @@ returns-in-Dropped-clause-counts g c =
 pub returns-in_default : goal.returns-in_default
 returns-in_default g c =
     let e = c.args.end.now in
-    let f = c.served.new.self in
+    let f = c.served.new.end in
     let log = c.args.log.now in
     let w = c.args.writer.now in
     let s = g.D.Depot.state c.args.depot.now in
@@ -102,6 +104,30 @@ returns-in_default g c =
       rest = quiet_rest e f log w s quiet c.requires.rest;
       images = λ T good. quiet_images T s;
       good = λ T tree good. quiet_good e f log w s quiet T good;
+      spares = spares_same (IsOtherRow w.known row) w.files s.told;
       counts = quiet_counts e f log w s quiet;
       slips = λ T. quiet_slips (λ t. DockGood T (plain_of e log w) t.now) s;
     }
+
+pub returns-in_ok-prepare-in-Done-clause-spares : goal.returns-in_ok-prepare-in-Done-clause-spares
+returns-in_ok-prepare-in-Done-clause-spares g c =
+    let w = c.args.writer.now in
+    spares_fewer (IsBeside w.known) (IsOtherRow w.known (shown c.args.row)) w.files (g.D.Depot.state c.args.depot.now).told (g.D.Depot.state c.choose.new.depot).told (λ path other. other.beside) c.choose.ensures.spares
+
+pub returns-in_ok-prepare-in-WaitWritten-clause-spares : goal.returns-in_ok-prepare-in-WaitWritten-clause-spares
+returns-in_ok-prepare-in-WaitWritten-clause-spares g c =
+    let w = c.args.writer.now in
+    spares_fewer (IsBeside w.known) (IsOtherRow w.known (shown c.args.row)) w.files (g.D.Depot.state c.args.depot.now).told (g.D.Depot.state c.choose-in-WaitWritten.new.depot).told (λ path other. other.beside) c.choose-in-WaitWritten.ensures.spares
+
+pub returns-in_ok-prepare-in-Woken-clause-spares : goal.returns-in_ok-prepare-in-Woken-clause-spares
+returns-in_ok-prepare-in-Woken-clause-spares g c =
+    let w = c.args.writer.now in
+    spares_fewer (IsBeside w.known) (IsOtherRow w.known (shown c.args.row)) w.files (g.D.Depot.state c.args.depot.now).told (g.D.Depot.state c.choose-in-Woken.new.depot).told (λ path other. other.beside) c.choose-in-Woken.ensures.spares
+
+pub returns-in_ok-prepare-in-Block-clause-spares : goal.returns-in_ok-prepare-in-Block-clause-spares
+returns-in_ok-prepare-in-Block-clause-spares g c =
+    let w = c.args.writer.now in
+    subst (λ (row : Row). Between (Spares (IsOtherRow w.known row) w.files) (g.D.Depot.state c.args.depot.now).told (g.D.Depot.state c.begin.new.depot).told) (sym (ap shown c.in-Block.is)) c.begin.ensures.spares
+
+pub returns-in-Dropped-clause-spares : goal.returns-in-Dropped-clause-spares
+returns-in-Dropped-clause-spares g c = spares_same (IsOtherRow c.args.writer.now.known (shown c.args.row)) c.args.writer.now.files (g.D.Depot.state c.args.depot.now).told

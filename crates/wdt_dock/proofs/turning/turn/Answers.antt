@@ -13,6 +13,8 @@ use Rattle.wdt_dock.specs.DockView.{TurnRan, Turns}
 use Rattle.wdt_dock.specs.Turning.{IsTreesRow}
 use Rattle.wdt_dock.proofs.MayServing.{row_tree}
 use Rattle.wdt_dock.proofs.Quiet.{given_quiet, quiet_counts, quiet_desk, quiet_good, quiet_images, quiet_ran, quiet_rest, quiet_slips, quiet_turns, starved_quiet, turn_is}
+use Rattle.wdt_dock.specs.Sparing.{IsOther, IsOtherRow}
+use Rattle.wdt_dock.proofs.Sparing.{row_other, spares_fewer, spares_same}
 use Rattle.wdt_dock.proofs.turning.turn.Goals as goal
 
 pub returns-in-Starved-clause-turns : goal.returns-in-Starved-clause-turns
@@ -22,7 +24,7 @@ returns-in-Starved-clause-turns g c =
     let w = c.args.writer.now in
     let s = g.D.Depot.state c.args.depot.now in
     let r = plain_of e log w in
-    let f = c.starved.new.self in
+    let f = c.starved.new.end in
     let mute = c.in-Starved.mute in
     let fits : row_at r c.args.lane (Given c.args.input.now) ≡ Starved mute = ap (λ (x : RecvLane). row_of x.is_sized x.state c.args.input.now) (sym c.lane.ensures) ∙ sym c.in-Starved.ensures in
     let said = c.starved.ensures (books_of log w) in
@@ -37,7 +39,7 @@ returns-in-Starved-clause-exact g c =
     let w = c.args.writer.now in
     let s = g.D.Depot.state c.args.depot.now in
     let r = plain_of e log w in
-    let f = c.starved.new.self in
+    let f = c.starved.new.end in
     let mute = c.in-Starved.mute in
     let fits : row_at r c.args.lane (Given c.args.input.now) ≡ Starved mute = ap (λ (x : RecvLane). row_of x.is_sized x.state c.args.input.now) (sym c.lane.ensures) ∙ sym c.in-Starved.ensures in
     let said = c.starved.ensures (books_of log w) in
@@ -52,7 +54,7 @@ returns-in-Starved-clause-desk g c =
     let w = c.args.writer.now in
     let s = g.D.Depot.state c.args.depot.now in
     let r = plain_of e log w in
-    let f = c.starved.new.self in
+    let f = c.starved.new.end in
     let mute = c.in-Starved.mute in
     let fits : row_at r c.args.lane (Given c.args.input.now) ≡ Starved mute = ap (λ (x : RecvLane). row_of x.is_sized x.state c.args.input.now) (sym c.lane.ensures) ∙ sym c.in-Starved.ensures in
     let said = c.starved.ensures (books_of log w) in
@@ -68,7 +70,7 @@ returns-in-Starved-clause-rest g c =
     let w = c.args.writer.now in
     let s = g.D.Depot.state c.args.depot.now in
     let r = plain_of e log w in
-    let f = c.starved.new.self in
+    let f = c.starved.new.end in
     let mute = c.in-Starved.mute in
     let fits : row_at r c.args.lane (Given c.args.input.now) ≡ Starved mute = ap (λ (x : RecvLane). row_of x.is_sized x.state c.args.input.now) (sym c.lane.ensures) ∙ sym c.in-Starved.ensures in
     let said = c.starved.ensures (books_of log w) in
@@ -84,7 +86,7 @@ returns-in-Starved-clause-good g c T put good =
     let w = c.args.writer.now in
     let s = g.D.Depot.state c.args.depot.now in
     let r = plain_of e log w in
-    let f = c.starved.new.self in
+    let f = c.starved.new.end in
     let mute = c.in-Starved.mute in
     let fits : row_at r c.args.lane (Given c.args.input.now) ≡ Starved mute = ap (λ (x : RecvLane). row_of x.is_sized x.state c.args.input.now) (sym c.lane.ensures) ∙ sym c.in-Starved.ensures in
     let said = c.starved.ensures (books_of log w) in
@@ -100,7 +102,7 @@ returns-in-Starved-clause-counts g c =
     let w = c.args.writer.now in
     let s = g.D.Depot.state c.args.depot.now in
     let r = plain_of e log w in
-    let f = c.starved.new.self in
+    let f = c.starved.new.end in
     let mute = c.in-Starved.mute in
     let fits : row_at r c.args.lane (Given c.args.input.now) ≡ Starved mute = ap (λ (x : RecvLane). row_of x.is_sized x.state c.args.input.now) (sym c.lane.ensures) ∙ sym c.in-Starved.ensures in
     let said = c.starved.ensures (books_of log w) in
@@ -135,6 +137,7 @@ returns-then-has_failed g c =
       images = λ T good. quiet_images T s;
       good = λ T put good. quiet_good e f log w s quiet T good;
       untouched = λ is. refl;
+      spares = spares_same (IsOther w.known (Given c.args.input.now)) w.files s.told;
       counts = quiet_counts e f log w s quiet;
       slips = λ T. quiet_slips (λ t. DockGood T r t.now) s;
     }
@@ -163,6 +166,14 @@ returns-else-has_failed g c =
       images = c.serve.ensures.images;
       good = λ T put good. c.serve.ensures.good T (subst (IsTreesRow T) fits (row_tree T r c.args.lane c.args.input.now put)) good;
       untouched = λ failed. absurd (both_ways (is_failure e.answer) sound failed);
+      spares = spares_fewer (IsOtherRow w.known row) (IsOther w.known (Given c.args.input.now)) w.files s.told s1.told
+          (λ path other. subst (λ (x : Row). IsOtherRow w.known x path) fits (row_other w.known r c.args.lane c.args.input.now path other)) c.serve.ensures.spares;
       counts = c.serve.ensures.counts;
       slips = c.serve.ensures.slips;
     }
+
+pub returns-in-Over-clause-spares : goal.returns-in-Over-clause-spares
+returns-in-Over-clause-spares g c = spares_same (IsOther c.args.writer.now.known (Given c.args.input.now)) c.args.writer.now.files (g.D.Depot.state c.args.depot.now).told
+
+pub returns-in-Starved-clause-spares : goal.returns-in-Starved-clause-spares
+returns-in-Starved-clause-spares g c = spares_same (IsOther c.args.writer.now.known (Given c.args.input.now)) c.args.writer.now.files (g.D.Depot.state c.args.depot.now).told

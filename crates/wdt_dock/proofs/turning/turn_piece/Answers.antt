@@ -13,6 +13,8 @@ use Rattle.wdt_dock.specs.DockGood.{DockGood}
 use Rattle.wdt_dock.specs.DockView.{TurnRan, Turns}
 use Rattle.wdt_dock.proofs.MayServing.{taking_begun}
 use Rattle.wdt_dock.proofs.Quiet.{given_quiet, plain_same, quiet_counts, quiet_desk, quiet_good, quiet_images, quiet_ran, quiet_rest, quiet_slips, quiet_turns}
+use Rattle.wdt_dock.specs.Sparing.{IsBeside}
+use Rattle.wdt_dock.proofs.Sparing.{spares_same}
 use Rattle.wdt_dock.proofs.turning.turn_piece.Goals as goal
 
 pub returns-then-has_failed : goal.returns-then-has_failed
@@ -40,6 +42,7 @@ returns-then-has_failed g c =
       images = λ T put good. quiet_images T s;
       good = λ T put good. quiet_good e f log w s quiet T good;
       untouched = λ is. refl;
+      spares = spares_same (IsBeside w.known) w.files s.told;
       counts = quiet_counts e f log w s quiet;
       slips = λ T. quiet_slips (λ t. DockGood T r t.now) s;
     }

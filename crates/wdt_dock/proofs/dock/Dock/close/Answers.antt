@@ -6,6 +6,11 @@ use Rattle.wdt_dock.specs.DockView.{HasLostDisk}
 use Rattle.wdt_dock.specs.Landed.{AllLogged, EachLogged}
 use Rattle.wdt_dock.proofs.Keeping.{not_lost}
 use Rattle.wdt_dock.proofs.LandedLogged.{told_all, told_each}
+use Rattle.std.specs.Prelude.{◌↔◌}
+use Rattle.wdt_sender_fsm.specs.declared.answers.EndAnswer.TheVariants as answers
+use Rattle.wdt_receiver_fsm.specs.Answered.{HasNoLane, has_all_done}
+use Rattle.wdt_dock.specs.Desk.{plain_of}
+use Rattle.wdt_receiver_fsm.proofs.ForCallers.{answered_done, answered_link}
 use Rattle.wdt_dock.proofs.dock.Dock.close.Goals as goal
 
 pub returns-clause-logged : goal.returns-clause-logged
@@ -21,3 +26,13 @@ returns-clause-finished g c =
     subst (λ (r : PlainReceiver). has_finish r ≡ true → (HasLostDisk r.answer → ⊥) → IfTold (λ t. EachLogged r t.now) (g.D.Depot.state c.self.inside.depot).told)
     (ap (λ v. v.plain) c.self.view_is)
     (λ finish here. told_each e c.self.inside.log c.self.inside.writer c.self.invariant.desk c.self.invariant.batched c.opening-opening.ensures.view (g.D.Depot.state c.self.inside.depot).told (c.self.invariant.rest.rests here) c.self.invariant.receiver finish)
+
+pub returns-clause-done : goal.returns-clause-done
+returns-clause-done g c =
+    let i = c.self.inside in
+    subst (λ (r : PlainReceiver). (r.answer ≡ answers.Done) ↔ (has_all_done r ≡ true)) (ap (λ v. v.plain) c.self.view_is) (answered_done (plain_of i.end i.log i.writer) c.self.invariant.answered)
+
+pub returns-clause-link : goal.returns-clause-link
+returns-clause-link g c =
+    let i = c.self.inside in
+    subst (λ (r : PlainReceiver). (r.answer ≡ answers.Link) ↔ HasNoLane r) (ap (λ v. v.plain) c.self.view_is) (answered_link (plain_of i.end i.log i.writer) c.self.invariant.answered)

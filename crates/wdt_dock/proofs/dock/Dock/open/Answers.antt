@@ -8,9 +8,10 @@ use Rattle.wdt_receiver_fsm.specs.Receiver.{IsReceiver}
 use Rattle.wdt_dock.specs.Desk.{plain_of}
 use Rattle.wdt_dock.specs.Dock.{IsDock}
 use Rattle.wdt_dock.specs.DockGood.{DockGood}
-use Rattle.wdt_dock.specs.End.{EndView, new_end}
+use Rattle.wdt_receiver_fsm.specs.End.{EndView, new_end}
 use Rattle.wdt_dock.proofs.Flushed.{fits_after}
 use Rattle.wdt_dock.proofs.Opened.{dock_opened, told_opened}
+use Rattle.wdt_receiver_fsm.proofs.ForCallers.{opened_answered}
 use Rattle.wdt_dock.proofs.dock.Dock.open.Goals as goal
 
 pub invariant_of-result : goal.invariant_of-result
@@ -23,7 +24,8 @@ invariant_of-result g c =
     subst (λ (e : EndView). IsDock e c.in-Ok.log c.in-Ok-parts_of.writer s) (sym end_is)
     (subst (λ (w : PlainWriter). IsDock (new_end c.in-Ok.log.meaning.files c.args.batch c.args.lanes) c.in-Ok.log w s) (sym writer_is)
     (dock_opened c.in-Ok.log c.args.batch c.args.lanes view c.in-Ok.ensures.version s c.in-Ok.ensures.spots c.in-Ok.ensures.open c.in-Ok.ensures.logged
-    (c.receivers_stay_receivers.ensures.begins c.in-Ok.log.meaning c.args.batch c.args.lanes c.requires.few_lanes) (c.batches_add_up.ensures.begins c.in-Ok.log.meaning c.args.batch c.args.lanes view c.requires.some_bytes)))
+    (c.receivers_stay_receivers.ensures.begins c.in-Ok.log.meaning c.args.batch c.args.lanes c.requires.few_lanes) (c.batches_add_up.ensures.begins c.in-Ok.log.meaning c.args.batch c.args.lanes view c.requires.some_bytes)
+    (opened_answered c.in-Ok.log.meaning c.args.batch c.args.lanes c.requires.some_lanes)))
 
 pub returns-in-Ok-parts_of-clause-receiver : goal.returns-in-Ok-parts_of-clause-receiver
 returns-in-Ok-parts_of-clause-receiver g c =

@@ -1,8 +1,0 @@
-use Rattle.std.proofs.Common.{sym, ◌∙◌}
-use Rattle.wdt_dock.specs.End.{is_out_in}
-use Rattle.wdt_dock.proofs.Ending.{every_false, out_at}
-use Rattle.wdt_dock.proofs.answers.are_out.Goals as goal
-
-pub returns-then-not-is_ended : goal.returns-then-not-is_ended
-returns-then-not-is_ended c =
-    every_false _ c.loop-lane.lane-index (is_out_in c.args.lanes.now) c.loop-lane-test.true (out_at c.args.lanes.now c.loop-lane.lane-index _ c.loop-lane-test.true ∙ sym c.is_ended.ensures ∙ c.if-not-is_ended.true)

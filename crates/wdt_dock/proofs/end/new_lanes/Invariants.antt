@@ -1,6 +1,0 @@
-use Rattle.std.proofs.Common.{◌≡◌, replicate}
-use Rattle.wdt_receiver_fsm.specs.PlainReceiver.{new_lane}
-use Rattle.wdt_dock.proofs.end.new_lanes.Given as goal
-
-abbrev pub invariant-loop : goal.invariant-loop
-invariant-loop l = l.list.items ≡ replicate l.counter new_lane

@@ -1,0 +1,13 @@
+use Rattle.std.proofs.Common.{◌∷◌, [], sym, ap, ◌∙◌}
+use Rattle.wdt_receiver_fsm.specs.declared.events.RecvEvent.TheVariants as events
+use Rattle.wdt_receiver_fsm.specs.PlainReceiver.{PlainReceiver, noted}
+use Rattle.wdt_receiver_fsm.specs.Turn.{leaves}
+use Rattle.wdt_receiver_fsm.specs.End.{EndView, plain_with}
+use Rattle.wdt_receiver_fsm.proofs.Ending.{same_plain}
+use Rattle.wdt_receiver_fsm.proofs.end.RecvEnd.answered.Goals as goal
+
+pub returns-clause-ok : goal.returns-clause-ok
+returns-clause-ok c = λ books.
+    ap (λ (r : PlainReceiver). leaves (noted r (events.Acked c.args.lane ∷ [])) c.args.lane) (sym (same_plain _ _ c.prepare.ensures.same books))
+    ∙ ap (λ (v : EndView). leaves (plain_with v books) c.args.lane) (sym c.note.ensures)
+    ∙ c.leave.ensures books

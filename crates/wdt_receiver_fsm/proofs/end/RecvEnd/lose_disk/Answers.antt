@@ -1,0 +1,17 @@
+use Rattle.std.proofs.Common.{Bool, ap, ◌∙◌}
+use Rattle.wdt_sender_fsm.specs.Rules.{by_voice}
+use Rattle.wdt_sender_fsm.specs.declared.answers.EndAnswer.TheVariants as answers
+use Rattle.wdt_receiver_fsm.specs.PlainReceiver.{PlainReceiver, failed}
+use Rattle.wdt_receiver_fsm.specs.Turn.{leaves, tells_failure}
+use Rattle.wdt_receiver_fsm.specs.End.{plain_with}
+use Rattle.wdt_receiver_fsm.specs.Idling.{idled}
+use Rattle.wdt_receiver_fsm.proofs.Telling.{speaks}
+use Rattle.wdt_receiver_fsm.proofs.end.RecvEnd.lose_disk.Goals as goal
+
+pub returns : goal.returns
+returns c = λ books.
+    let l = c.args.lane in
+    let stood : PlainReceiver = failed (idled c.args.way (plain_with c.args.self.now books) l) answers.Disk in
+    ap (λ (b : Bool). by_voice b (leaves stood l) (tells_failure stood l)) (speaks c.args.way)
+    ∙ ap (λ (r : PlainReceiver). tells_failure (failed r answers.Disk) l) (c.be_idle.ensures.plain books)
+    ∙ c.fail_with.ensures books
