@@ -68,3 +68,4 @@ mod TellingUp
 mod RecvTalks
 mod TellingSteps
 mod TellingAll
+mod Planning
