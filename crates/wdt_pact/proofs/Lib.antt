@@ -69,3 +69,4 @@ mod RecvTalks
 mod TellingSteps
 mod TellingAll
 mod Planning
+mod Emptying

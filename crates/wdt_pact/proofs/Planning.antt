@@ -94,7 +94,7 @@ pair_down w l p within all own k small =
 
 -- ---- a turn of the sender's lane
 
-plan_stays : (s : PlainSender) (input : SendIn) (t : PlainSender) → Plans s input t → is_some s.have ≡ true → is_some t.have ≡ true
+pub plan_stays : (s : PlainSender) (input : SendIn) (t : PlainSender) → Plans s input t → is_some s.have ≡ true → is_some t.have ≡ true
 plan_stays s input t (AsBefore have plan) e = ap is_some have ∙ e
 plan_stays s input t (Anew have given none is plan) e = ap is_some is
 
