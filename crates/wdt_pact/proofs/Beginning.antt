@@ -20,7 +20,7 @@ use Rattle.wdt_sender_fsm.specs.Rules.{every}
 use Rattle.wdt_sender_fsm.specs.declared.states.SendLane.{SendLane}
 use Rattle.wdt_receiver_fsm.specs.declared.states.RecvLane.{RecvLane}
 use Rattle.wdt_units.specs.declared.blocks.Block.{Block}
-use Rattle.wdt_pact.specs.Finishing.{Finishing, telling}
+use Rattle.wdt_pact.specs.Finishing.{ComesOfPlan, Finishing, telling}
 use Rattle.wdt_sender_fsm.specs.Rows as send_rows
 use Rattle.wdt_sender_fsm.specs.Sender.{IsSender}
 use Rattle.wdt_sender_fsm.specs.SenderHistory as sent
@@ -39,7 +39,7 @@ use Rattle.wdt_receiver_fsm.specs.Sets.{has}
 use Rattle.wdt_receiver_fsm.specs.Rows as recv_rows
 use Rattle.wdt_receiver_fsm.proofs.ForCallers.{heard_named}
 use Rattle.wdt_pact.specs.Belongs.{RecvBelongs, SendBelongs}
-use Rattle.wdt_pact.specs.Fitting.{FitsDown, IsSound}
+use Rattle.wdt_pact.specs.Fitting.{FitsDown, GoesDown, IsSound}
 use Rattle.wdt_pact.specs.Lists.{Splits}
 use Rattle.wdt_pact.specs.Pairs.{Pair, RecvHold, RecvHas, SendHold, SendHas}
 use Rattle.wdt_pact.specs.Progress.{AreCut, AreEven}
@@ -196,6 +196,8 @@ module _ (manifest : List Entry) (block session : ℕ) (log : Meaning) (batch n 
         confirmed = λ q e. absurd (both_ways (is_confirmed w.receiver.history q) (ap (λ (c : Confirm). c.is_confirmed) (confirm_is q)) e);
         witness = λ sound waits. absurd (waits waits_none);
         ready = λ sound e. absurd (both_ways (can_finish w.receiver) (unready some) e);
+        tells = λ l within. subst (GoesDown (ComesOfPlan false)) (sym (pair_is l (in_pairs l within))) record { hand = tt; says = tt; taken = tt; between = tt; newest = tt };
+        sized = λ n. absurd (n (ap (λ (e : EndPast). e.sized) received.end_of-none));
         empty = λ e. absurd (both_ways (recv.has_finish w.receiver) unfinished e);
         planned = λ e. absurd (both_ways (recv.has_finish w.receiver) unfinished e);
       }

@@ -139,7 +139,7 @@ module _ (sounds : SoundLanes) (w : PlainWorld) (l : ℕ) (c : Conversation w) (
     go (Asks p why) = point_knows step.1.history p q e
     go (Tells t k ks p many untold is) =
         point_knows t.history p q (sym (ap (λ (x : Step). is_confirmed x.1.history q) is ∙ ap (λ (x : Confirm). x.is_confirmed) (confirm_of-append t.history (events.Told (number l) (set_of (k ∷ ks)) ∷ []) q)) ∙ e)
-    go (Ends t p many first ready is) =
+    go (Ends t sound p many first ready is) =
         point_knows t.history p q (sym (ap (λ (x : List RecvEvent). is_confirmed x q) is ∙ ap (λ (x : Confirm). x.is_confirmed) (confirm_of-append t.history (events.Finish ∷ []) q)) ∙ e)
 
   -- an end that hasn't failed hadn't
@@ -172,7 +172,7 @@ module _ (sounds : SoundLanes) (w : PlainWorld) (l : ℕ) (c : Conversation w) (
         let past : past_of h l ≡ _ = past_of-append t.history (events.Told (number l) (set_of (k ∷ ks)) ∷ []) l in
         absurd (or_false (past_of h l).is_idle (past_of h l).is_closed (ap (λ (x : RecvPast). x.is_idle) past ∙ rw (eq-eqb l l refl) refl) (ap (λ (x : RecvPast). x.is_closed) past ∙ (point_closed w.receiver l put t.history quiet_idle p l ∙ opens))
         (subst (λ (g : List RecvEvent). rests g l ≡ true) same (ready_rests (length w.receiver.lanes) step.1.history l at below)))
-    go (Ends t p many first ready is) = ap (λ (x : List RecvEvent). (end_of x).has_finish) is ∙ ap (λ (x : EndPast). x.has_finish) (end_of-append t.history (events.Finish ∷ []))
+    go (Ends t well p many first ready is) = ap (λ (x : List RecvEvent). (end_of x).has_finish) is ∙ ap (λ (x : EndPast). x.has_finish) (end_of-append t.history (events.Finish ∷ []))
 
 -- ---- whatever happens
 

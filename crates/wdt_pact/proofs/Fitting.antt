@@ -1,12 +1,12 @@
 -- What goes down stays in the grammar's ranges, and each end keeps to its limits.
 use Rattle.std.proofs.Common.{◌≡◌, ℕ, zero, suc, ◌<◌, ◌≤◌, ◌||◌, ◌&&◌, not, nat_le, Bool, true, false, List, [], ◌∷◌, length, take, slice_get, slice_set, option_map, ◌^◌, ◌-◌, Option, Some, None, subst, sym, ap, ◌∙◌, refl}
 use Rattle.std.proofs.lemmas.List.{length-set}
-use Rattle.wdt_units.specs.Headers.{FitsHeader}
 use Rattle.wdt_units.specs.declared.blocks.Header.{Header}
 use Rattle.wdt_units.specs.declared.numbers.Lane.{Lane}
 use Rattle.wdt_units.specs.Have.{HaveFile}
 use Rattle.wdt_codec.specs.Chunks.{FitsChunks}
 use Rattle.wdt_codec.specs.declared.frames.Frame.{Frame}
+use Rattle.wdt_codec.specs.declared.frames.Frame.TheVariants as frames
 use Rattle.wdt_logfmt.specs.View.{NamedFile}
 use Rattle.wdt_tree.specs.declared.entry.Entry.{Entry}
 use Rattle.wdt_sender_fsm.specs.declared.acts.SendAct.{SendAct}
@@ -30,7 +30,7 @@ use Rattle.wdt_receiver_fsm.specs.Writes.{CanTell, FitsPut}
 use Rattle.wdt_receiver_fsm.proofs.ForCallers.{codes_keep, turn_touches}
 use Rattle.wdt_pact.specs.Belongs.{RecvFits}
 use Rattle.wdt_pact.specs.Each.{Each}
-use Rattle.wdt_pact.specs.Fitting.{DownFits, DownFitsBy, FitsDown, FitsMessage, Fitting, SendsFit}
+use Rattle.wdt_pact.specs.Fitting.{DownBy, DownOf, FitsDown, FitsMessage, Fitting, GoesDown, SaysOf}
 use Rattle.wdt_pact.specs.Links.{Link, Way, cut_link, front, is_cut, note_greeted, size_down, size_up, with_sent}
 use Rattle.wdt_pact.specs.Lists.{in_hand}
 use Rattle.wdt_pact.specs.Pairs.{Pair, RecvHold, RecvDoes, RecvHas, RecvTook, SendHold, SendDoes, SendHas, cuts_by, noted_below, put_newest, put_taken, recv_accepts, recv_accepts_by, recv_does, recv_gets, recv_nothing, recv_reads, recv_reads_by, recv_stops, recv_takes, recv_takes_by, recv_writes, recv_wrote_or_lost, send_dials, send_does, send_left, send_loses, send_reads, send_reads_by, send_sends, send_stops, send_takes, send_writes, top, top_by, waits, with_top, wrote_or_lost}
@@ -42,141 +42,155 @@ use Rattle.wdt_pact.proofs.Lists.{Each-append, Each-take, IsPiece, are_pieces}
 use Rattle.wdt_pact.proofs.Reading.{front_head}
 use Rattle.wdt_pact.proofs.RecvRows.{ends_in, have_stays}
 
--- ---- what the receiver's lane does
+-- ---- messages of a kind, of which each piece is
 
-front_down : (k : Link) (m : Message) (rest : Way Message) → front size_down k.down ≡ Some (m, rest) → DownFits k → FitsMessage m × Each FitsMessage rest.sent
-front_down k m rest e d = subst (λ (ms : List Message). Each FitsMessage ms) (front_head size_down k.down.sent k.down.room m rest e) d
+module _ (P : Message → Type 0) (pieces : (n : ℕ) → P (Piece n)) where
+  abbrev Goes : Pair → Type 0
+  Goes = GoesDown P
 
-no_hand : (b : Bool) → Each FitsMessage (in_hand (RecvHas (recv_wrote_or_lost b)))
-no_hand true = tt
-no_hand false = tt
+  -- ---- what the receiver's lane does
 
-nothing_down : (p : Pair) (k : Link) → FitsDown p → FitsDown (recv_nothing p k)
-nothing_down p k d = if_has FitsDown (is_cut k.down || send_left p.newest p.send) (record p { recv = RecvHas recv_inputs.Lost }) p record { hand = tt; says = d.says; taken = d.taken; between = d.between; newest = d.newest } d
+  front_down : (k : Link) (m : Message) (rest : Way Message) → front size_down k.down ≡ Some (m, rest) → DownOf P k → P m × Each P rest.sent
+  front_down k m rest e d = subst (λ (ms : List Message). Each P ms) (front_head size_down k.down.sent k.down.room m rest e) d
 
-reads_down : (p : Pair) (taken : Option Link) → DownFitsBy taken → FitsDown p → FitsDown (recv_reads p taken)
-reads_down p None t d = d
-reads_down p (Some k) t d = go (front size_down k.down) refl where
-  go : (o : Option (Message × Way Message)) → front size_down k.down ≡ o → FitsDown (recv_reads_by p k o)
-  go (Some (Framed f, rest)) e = let x = front_down k (Framed f) rest e t in record { hand = (x.0, tt); says = d.says; taken = x.1; between = d.between; newest = d.newest }
-  go (Some (Piece n, rest)) e = d
-  go None e = nothing_down p k d
+  no_hand : (b : Bool) → Each P (in_hand (RecvHas (recv_wrote_or_lost b)))
+  no_hand true = tt
+  no_hand false = tt
 
-takes_down : (p : Pair) (taken : Option Link) → DownFitsBy taken → FitsDown p → FitsDown (recv_takes p taken)
-takes_down p None t d = d
-takes_down p (Some k) t d = go (front size_down k.down) refl where
-  go : (o : Option (Message × Way Message)) → front size_down k.down ≡ o → FitsDown (recv_takes_by p k o)
-  go (Some (Piece n, rest)) e = let x = front_down k (Piece n) rest e t in record { hand = tt; says = d.says; taken = x.1; between = d.between; newest = d.newest }
-  go (Some (Framed f, rest)) e = d
-  go None e = nothing_down p k d
+  nothing_down : (p : Pair) (k : Link) → Goes p → Goes (recv_nothing p k)
+  nothing_down p k d = if_has Goes (is_cut k.down || send_left p.newest p.send) (record p { recv = RecvHas recv_inputs.Lost }) p record { hand = tt; says = d.says; taken = d.taken; between = d.between; newest = d.newest } d
 
-writes_down : (p : Pair) (f : Frame) (taken : Option Link) → DownFitsBy taken → FitsDown p → FitsDown (recv_writes p f taken)
-writes_down p f None t d = d
-writes_down p f (Some k) t d = record { hand = no_hand (not (is_cut k.up) && not (send_left p.newest p.send)); says = d.says; taken = t; between = d.between; newest = d.newest }
+  reads_down : (p : Pair) (taken : Option Link) → DownBy P taken → Goes p → Goes (recv_reads p taken)
+  reads_down p None t d = d
+  reads_down p (Some k) t d = go (front size_down k.down) refl where
+    go : (o : Option (Message × Way Message)) → front size_down k.down ≡ o → Goes (recv_reads_by p k o)
+    go (Some (Framed f, rest)) e = let x = front_down k (Framed f) rest e t in record { hand = (x.0, tt); says = d.says; taken = x.1; between = d.between; newest = d.newest }
+    go (Some (Piece n, rest)) e = d
+    go None e = nothing_down p k d
 
-accepts_down : (p : Pair) (between : List Link) (newest : Option Link) → Each DownFits between → DownFitsBy newest → FitsDown p → FitsDown (recv_accepts_by p between newest)
-accepts_down p (k ∷ ks) newest b n d = record { hand = tt; says = d.says; taken = b.0; between = b.1; newest = d.newest }
-accepts_down p [] (Some k) b n d = record { hand = tt; says = d.says; taken = n; between = d.between; newest = tt }
-accepts_down p [] None b n d = if_has FitsDown (send_stops p.send) (record p { recv = RecvHas recv_inputs.NoLink }) p record { hand = tt; says = d.says; taken = d.taken; between = d.between; newest = d.newest } d
+  takes_down : (p : Pair) (taken : Option Link) → DownBy P taken → Goes p → Goes (recv_takes p taken)
+  takes_down p None t d = d
+  takes_down p (Some k) t d = go (front size_down k.down) refl where
+    go : (o : Option (Message × Way Message)) → front size_down k.down ≡ o → Goes (recv_takes_by p k o)
+    go (Some (Piece n, rest)) e = let x = front_down k (Piece n) rest e t in record { hand = tt; says = d.says; taken = x.1; between = d.between; newest = d.newest }
+    go (Some (Framed f, rest)) e = d
+    go None e = nothing_down p k d
 
-tries_down : (p : Pair) (n : ℕ) → FitsDown p → FitsDown (recv_accepts p n)
-tries_down p (suc n) d = record { hand = tt; says = d.says; taken = d.taken; between = d.between; newest = d.newest }
-tries_down p zero d = accepts_down p p.between p.newest d.between d.newest d
+  writes_down : (p : Pair) (f : Frame) (taken : Option Link) → DownBy P taken → Goes p → Goes (recv_writes p f taken)
+  writes_down p f None t d = d
+  writes_down p f (Some k) t d = record { hand = no_hand (not (is_cut k.up) && not (send_left p.newest p.send)); says = d.says; taken = t; between = d.between; newest = d.newest }
 
-recv_does_down : (p : Pair) (act : RecvAct) → FitsDown p → FitsDown (recv_does p act)
-recv_does_down p recv_acts.Accept d = tries_down p p.refusals d
-recv_does_down p (recv_acts.Write f) d = writes_down p f p.taken d.taken d
-recv_does_down p recv_acts.Read d = reads_down p p.taken d.taken d
-recv_does_down p (recv_acts.TakePiece n) d = takes_down p p.taken d.taken d
-recv_does_down p recv_acts.Park d = d
-recv_does_down p recv_acts.Stop d = d
+  accepts_down : (p : Pair) (between : List Link) (newest : Option Link) → Each (DownOf P) between → DownBy P newest → Goes p → Goes (recv_accepts_by p between newest)
+  accepts_down p (k ∷ ks) newest b n d = record { hand = tt; says = d.says; taken = b.0; between = b.1; newest = d.newest }
+  accepts_down p [] (Some k) b n d = record { hand = tt; says = d.says; taken = n; between = d.between; newest = tt }
+  accepts_down p [] None b n d = if_has Goes (send_stops p.send) (record p { recv = RecvHas recv_inputs.NoLink }) p record { hand = tt; says = d.says; taken = d.taken; between = d.between; newest = d.newest } d
 
--- ---- what the sender's lane does
+  tries_down : (p : Pair) (n : ℕ) → Goes p → Goes (recv_accepts p n)
+  tries_down p (suc n) d = record { hand = tt; says = d.says; taken = d.taken; between = d.between; newest = d.newest }
+  tries_down p zero d = accepts_down p p.between p.newest d.between d.newest d
 
-more_down : (k : Link) (ms : List Message) → Each FitsMessage ms → DownFits k → DownFits (record k { down = with_sent k.down ms })
-more_down k ms e d = Each-append FitsMessage k.down.sent ms d e
+  pub recv_does_down : (p : Pair) (act : RecvAct) → Goes p → Goes (recv_does p act)
+  recv_does_down p recv_acts.Accept d = tries_down p p.refusals d
+  recv_does_down p (recv_acts.Write f) d = writes_down p f p.taken d.taken d
+  recv_does_down p recv_acts.Read d = reads_down p p.taken d.taken d
+  recv_does_down p (recv_acts.TakePiece n) d = takes_down p p.taken d.taken d
+  recv_does_down p recv_acts.Park d = d
+  recv_does_down p recv_acts.Stop d = d
 
--- the sender's connection stands so now
-top_down : (p : Pair) (k : Link) (sh : SendHold) (rh : RecvHold) → DownFits k → Each FitsMessage (in_hand rh) → SendsFit sh → FitsDown p → FitsDown (record (with_top p k) { send = sh; recv = rh })
-top_down p k sh rh t h s d = record { hand = h; says = s; taken = taken p.newest d.taken; between = d.between; newest = newest p.newest } where
-  taken : (o : Option Link) → DownFitsBy p.taken → DownFitsBy (put_taken o p.taken k)
-  taken None e = t
-  taken (Some j) e = e
+  -- ---- what the sender's lane does
 
-  newest : (o : Option Link) → DownFitsBy (put_newest o k)
-  newest None = tt
-  newest (Some j) = t
+  more_down : (k : Link) (ms : List Message) → Each P ms → DownOf P k → DownOf P (record k { down = with_sent k.down ms })
+  more_down k ms e d = Each-append P k.down.sent ms d e
 
-wrote_fits : (b : Bool) → SendsFit (SendHas (wrote_or_lost b))
-wrote_fits true = tt
-wrote_fits false = tt
+  -- the sender's connection stands so now
+  top_down : (p : Pair) (k : Link) (sh : SendHold) (rh : RecvHold) → DownOf P k → Each P (in_hand rh) → SaysOf P sh → Goes p → Goes (record (with_top p k) { send = sh; recv = rh })
+  top_down p k sh rh t h s d = record { hand = h; says = s; taken = taken p.newest d.taken; between = d.between; newest = newest p.newest } where
+    taken : (o : Option Link) → DownBy P p.taken → DownBy P (put_taken o p.taken k)
+    taken None e = t
+    taken (Some j) e = e
 
-pub tops : (newest taken : Option Link) → DownFitsBy newest → DownFitsBy taken → DownFitsBy (top_by newest taken)
-tops None taken n t = t
-tops (Some k) taken n t = n
+    newest : (o : Option Link) → DownBy P (put_newest o k)
+    newest None = tt
+    newest (Some j) = t
 
-send_writes_down : (p : Pair) (ms : List Message) (k : Option Link) → DownFitsBy k → Each FitsMessage ms → FitsDown p → FitsDown (send_writes p ms k)
-send_writes_down p ms None t e d = d
-send_writes_down p ms (Some k) t e d =
-    top_down p (record k { down = with_sent k.down ms }) (SendHas (wrote_or_lost (not (is_cut k.down) && not (recv_stops p.recv)))) p.recv (more_down k ms e t) d.hand (wrote_fits (not (is_cut k.down) && not (recv_stops p.recv))) d
+  wrote_fits : (b : Bool) → SaysOf P (SendHas (wrote_or_lost b))
+  wrote_fits true = tt
+  wrote_fits false = tt
 
-send_loses_down : (p : Pair) (k : Option Link) (ms : List Message) (unwritten : Bool) → DownFitsBy k → Each FitsMessage ms → FitsDown p → FitsDown (send_loses p k ms unwritten)
-send_loses_down p None ms unwritten t e d = d
-send_loses_down p (Some k) ms unwritten t e d = top_down p (record k { down = with_sent k.down ms }) (SendHas (inputs.SourceLost unwritten)) p.recv (more_down k ms e t) d.hand tt d
+  pub tops : (newest taken : Option Link) → DownBy P newest → DownBy P taken → DownBy P (top_by newest taken)
+  tops None taken n t = t
+  tops (Some k) taken n t = n
 
-pieces_fit : (ms : List Message) → Each IsPiece ms → Each FitsMessage ms
-pieces_fit [] e = tt
-pieces_fit (Piece n ∷ ms) e = (tt, pieces_fit ms e.1)
-pieces_fit (Framed f ∷ ms) e = absurd e.0
+  send_writes_down : (p : Pair) (ms : List Message) (k : Option Link) → DownBy P k → Each P ms → Goes p → Goes (send_writes p ms k)
+  send_writes_down p ms None t e d = d
+  send_writes_down p ms (Some k) t e d =
+      top_down p (record k { down = with_sent k.down ms }) (SendHas (wrote_or_lost (not (is_cut k.down) && not (recv_stops p.recv)))) p.recv (more_down k ms e t) d.hand (wrote_fits (not (is_cut k.down) && not (recv_stops p.recv))) d
 
-block_fits : (h : Header) → FitsHeader h → Each FitsMessage (written_by (acts.SendBlock h))
-block_fits h f = (f, pieces_fit (pieces_of h.length) (are_pieces h.length (pieces_in h.length)))
+  send_loses_down : (p : Pair) (k : Option Link) (ms : List Message) (unwritten : Bool) → DownBy P k → Each P ms → Goes p → Goes (send_loses p k ms unwritten)
+  send_loses_down p None ms unwritten t e d = d
+  send_loses_down p (Some k) ms unwritten t e d = top_down p (record k { down = with_sent k.down ms }) (SendHas (inputs.SourceLost unwritten)) p.recv (more_down k ms e t) d.hand tt d
 
-send_sends_down : (p : Pair) (h : Header) (lost : Option ℕ) → FitsHeader h → FitsDown p → FitsDown (send_sends p h lost)
-send_sends_down p h None f d = send_writes_down p (written_by (acts.SendBlock h)) (top p) (tops p.newest p.taken d.newest d.taken) (block_fits h f) d
-send_sends_down p h (Some zero) f d =
-    if_has FitsDown (nat_le (pieces_in h.length) 0) (send_writes p (written_by (acts.SendBlock h)) (top p)) (send_loses p (top p) [] true)
-    (send_writes_down p (written_by (acts.SendBlock h)) (top p) (tops p.newest p.taken d.newest d.taken) (block_fits h f) d) (send_loses_down p (top p) [] true (tops p.newest p.taken d.newest d.taken) tt d)
-send_sends_down p h (Some (suc k)) f d =
-    if_has FitsDown (nat_le (pieces_in h.length) (suc k)) (send_writes p (written_by (acts.SendBlock h)) (top p)) (send_loses p (top p) (take (suc (suc k)) (written_by (acts.SendBlock h))) false)
-    (send_writes_down p (written_by (acts.SendBlock h)) (top p) (tops p.newest p.taken d.newest d.taken) (block_fits h f) d)
-    (send_loses_down p (top p) (take (suc (suc k)) (written_by (acts.SendBlock h))) false (tops p.newest p.taken d.newest d.taken) (Each-take FitsMessage (suc (suc k)) (written_by (acts.SendBlock h)) (block_fits h f)) d)
+  pieces_fit : (ms : List Message) → Each IsPiece ms → Each P ms
+  pieces_fit [] e = tt
+  pieces_fit (Piece n ∷ ms) e = (pieces n, pieces_fit ms e.1)
+  pieces_fit (Framed f ∷ ms) e = absurd e.0
 
-send_reads_down : (p : Pair) (k : Option Link) → DownFitsBy k → FitsDown p → FitsDown (send_reads p k)
-send_reads_down p None t d = d
-send_reads_down p (Some k) t d = go (front size_up k.up) where
-  go : (o : Option (Frame × Way Frame)) → FitsDown (send_reads_by p k o)
-  go (Some x) = top_down p (record k { up = x.1 }) (SendHas (inputs.Got x.0)) p.recv t d.hand tt d
-  go None = if_has FitsDown (is_cut k.up || recv_stops p.recv) (record p { send = SendHas inputs.Lost }) p record { hand = d.hand; says = tt; taken = d.taken; between = d.between; newest = d.newest } d
+  block_fits : (h : Header) → P (Framed (frames.Block h)) → Each P (written_by (acts.SendBlock h))
+  block_fits h f = (f, pieces_fit (pieces_of h.length) (are_pieces h.length (pieces_in h.length)))
 
-waits_fit : (o : Option Link) → DownFitsBy o → Each DownFits (waits o)
-waits_fit None e = tt
-waits_fit (Some k) e = (e, tt)
+  send_sends_down : (p : Pair) (h : Header) (lost : Option ℕ) → P (Framed (frames.Block h)) → Goes p → Goes (send_sends p h lost)
+  send_sends_down p h None f d = send_writes_down p (written_by (acts.SendBlock h)) (top p) (tops p.newest p.taken d.newest d.taken) (block_fits h f) d
+  send_sends_down p h (Some zero) f d =
+      if_has Goes (nat_le (pieces_in h.length) 0) (send_writes p (written_by (acts.SendBlock h)) (top p)) (send_loses p (top p) [] true)
+      (send_writes_down p (written_by (acts.SendBlock h)) (top p) (tops p.newest p.taken d.newest d.taken) (block_fits h f) d) (send_loses_down p (top p) [] true (tops p.newest p.taken d.newest d.taken) tt d)
+  send_sends_down p h (Some (suc k)) f d =
+      if_has Goes (nat_le (pieces_in h.length) (suc k)) (send_writes p (written_by (acts.SendBlock h)) (top p)) (send_loses p (top p) (take (suc (suc k)) (written_by (acts.SendBlock h))) false)
+      (send_writes_down p (written_by (acts.SendBlock h)) (top p) (tops p.newest p.taken d.newest d.taken) (block_fits h f) d)
+      (send_loses_down p (top p) (take (suc (suc k)) (written_by (acts.SendBlock h))) false (tops p.newest p.taken d.newest d.taken) (Each-take P (suc (suc k)) (written_by (acts.SendBlock h)) (block_fits h f)) d)
 
-send_dials_down : (p : Pair) (n : ℕ) (stopped : Bool) → FitsDown p → FitsDown (send_dials p n stopped)
-send_dials_down p (suc n) stopped d = record { hand = d.hand; says = tt; taken = d.taken; between = d.between; newest = d.newest }
-send_dials_down p zero true d = record { hand = d.hand; says = tt; taken = d.taken; between = d.between; newest = d.newest }
-send_dials_down p zero false d = record { hand = d.hand; says = tt; taken = d.taken; between = Each-append DownFits p.between (waits p.newest) d.between (waits_fit p.newest d.newest); newest = tt }
+  send_reads_down : (p : Pair) (k : Option Link) → DownBy P k → Goes p → Goes (send_reads p k)
+  send_reads_down p None t d = d
+  send_reads_down p (Some k) t d = go (front size_up k.up) where
+    go : (o : Option (Frame × Way Frame)) → Goes (send_reads_by p k o)
+    go (Some x) = top_down p (record k { up = x.1 }) (SendHas (inputs.Got x.0)) p.recv t d.hand tt d
+    go None = if_has Goes (is_cut k.up || recv_stops p.recv) (record p { send = SendHas inputs.Lost }) p record { hand = d.hand; says = tt; taken = d.taken; between = d.between; newest = d.newest } d
 
-send_does_down : (p : Pair) (lost : Option ℕ) (act : SendAct) → SendsFit (SendDoes act) → FitsDown p → FitsDown (send_does p lost act)
-send_does_down p lost (acts.Dial conn) f d = send_dials_down p p.denies (recv_stops p.recv) d
-send_does_down p lost (acts.Write frame) f d = send_writes_down p (Framed frame ∷ []) (top p) (tops p.newest p.taken d.newest d.taken) (f, tt) d
-send_does_down p lost (acts.SendBlock h) f d = send_sends_down p h lost f d
-send_does_down p lost acts.Read f d = send_reads_down p (top p) (tops p.newest p.taken d.newest d.taken) d
-send_does_down p lost acts.Stop f d = d
+  waits_fit : (o : Option Link) → DownBy P o → Each (DownOf P) (waits o)
+  waits_fit None e = tt
+  waits_fit (Some k) e = (e, tt)
 
-noted_fits : (b : Bool) (o : Option Link) → DownFitsBy o → DownFitsBy (option_map (note_greeted b) o)
-noted_fits b None e = tt
-noted_fits b (Some k) e = e
+  send_dials_down : (p : Pair) (n : ℕ) (stopped : Bool) → Goes p → Goes (send_dials p n stopped)
+  send_dials_down p (suc n) stopped d = record { hand = d.hand; says = tt; taken = d.taken; between = d.between; newest = d.newest }
+  send_dials_down p zero true d = record { hand = d.hand; says = tt; taken = d.taken; between = d.between; newest = d.newest }
+  send_dials_down p zero false d = record { hand = d.hand; says = tt; taken = d.taken; between = Each-append (DownOf P) p.between (waits p.newest) d.between (waits_fit p.newest d.newest); newest = tt }
 
-takes_fits : (p : Pair) (input : SendIn) (b : Bool) (act : SendAct) → SendsFit (SendDoes act) → FitsDown p → FitsDown (send_takes p input b act)
-takes_fits p (inputs.Got f) b act s d = record { hand = d.hand; says = s; taken = below p.newest; between = d.between; newest = noted_fits b p.newest d.newest } where
-  below : (o : Option Link) → DownFitsBy (noted_below o b p.taken)
-  below None = noted_fits b p.taken d.taken
-  below (Some t) = d.taken
-takes_fits p input b act s d = record { hand = d.hand; says = s; taken = d.taken; between = d.between; newest = d.newest }
+  pub send_does_down : (p : Pair) (lost : Option ℕ) (act : SendAct) → SaysOf P (SendDoes act) → Goes p → Goes (send_does p lost act)
+  send_does_down p lost (acts.Dial conn) f d = send_dials_down p p.denies (recv_stops p.recv) d
+  send_does_down p lost (acts.Write frame) f d = send_writes_down p (Framed frame ∷ []) (top p) (tops p.newest p.taken d.newest d.taken) (f, tt) d
+  send_does_down p lost (acts.SendBlock h) f d = send_sends_down p h lost f d
+  send_does_down p lost acts.Read f d = send_reads_down p (top p) (tops p.newest p.taken d.newest d.taken) d
+  send_does_down p lost acts.Stop f d = d
+
+  noted_fits : (b : Bool) (o : Option Link) → DownBy P o → DownBy P (option_map (note_greeted b) o)
+  noted_fits b None e = tt
+  noted_fits b (Some k) e = e
+
+  pub takes_fits : (p : Pair) (input : SendIn) (b : Bool) (act : SendAct) → SaysOf P (SendDoes act) → Goes p → Goes (send_takes p input b act)
+  takes_fits p (inputs.Got f) b act s d = record { hand = d.hand; says = s; taken = below p.newest; between = d.between; newest = noted_fits b p.newest d.newest } where
+    below : (o : Option Link) → DownBy P (noted_below o b p.taken)
+    below None = noted_fits b p.taken d.taken
+    below (Some t) = d.taken
+  takes_fits p input b act s d = record { hand = d.hand; says = s; taken = d.taken; between = d.between; newest = d.newest }
+
+  -- a cut leaves what was written
+  pub cuts_fit : (p : Pair) (d u : ℕ) (o : Option Link) → DownBy P o → Goes p → Goes (cuts_by p d u o)
+  cuts_fit p d u None t f = f
+  cuts_fit p d u (Some k) t f = top_down p (cut_link d u k) p.send p.recv t f.hand f.says f
 
 -- ---- in a world
+
+pub any_piece : (n : ℕ) → FitsMessage (Piece n)
+any_piece n = tt
 
 -- each lane's, where one lane's pair is another
 pub pair_fits : (ps : List Pair) (l : ℕ) (p : Pair) → l < length ps → FitsDown p → ((k : ℕ) → k < length ps → FitsDown (pair_or (slice_get ps k))) → (k : ℕ) → k < length (slice_set ps l p) → FitsDown (pair_or (slice_get (slice_set ps l p) k))
@@ -219,7 +233,7 @@ recv_fits w l broken within f = go (pair_at w l).recv refl where
   }
 
   acts_so : (act : RecvAct) → Fitting (with_pair w l (recv_does (pair_at w l) act))
-  acts_so act = with_fits w l (recv_does (pair_at w l) act) within (recv_does_down (pair_at w l) act d) f
+  acts_so act = with_fits w l (recv_does (pair_at w l) act) within (recv_does_down FitsMessage any_piece (pair_at w l) act d) f
 
   input_fits : (i : RecvIn) → RecvFits (RecvHas i) → FitsPut (Given i)
   input_fits (recv_inputs.Got frame) e = e
@@ -238,7 +252,7 @@ recv_fits w l broken within f = go (pair_at w l).recv refl where
   go (RecvTook n) is = subst (λ (x : RecvHold). Fitting (recv_steps_by w l broken x)) (sym is) (turns (Bytes (some_bytes n)) tt)
 
 -- the sender's act fits
-act_fits : (manifest : List Entry) (act : SendAct) → ((file : ℕ) (entry : Entry) → slice_get manifest file ≡ Some entry → entry.stamp ≤ 2 ^ 64 - 1) → FitsAct manifest act → SendsFit (SendDoes act)
+act_fits : (manifest : List Entry) (act : SendAct) → ((file : ℕ) (entry : Entry) → slice_get manifest file ≡ Some entry → entry.stamp ≤ 2 ^ 64 - 1) → FitsAct manifest act → SaysOf FitsMessage (SendDoes act)
 act_fits manifest (acts.Write frame) stamps f = f.0
 act_fits manifest (acts.SendBlock h) stamps f = f.0 (subst (λ (n : ℕ). n ≤ 2 ^ 64 - 1) (sym f.1.stamp) (stamps f.1.file f.1.entry f.1.there))
 act_fits manifest act stamps f = tt
@@ -250,7 +264,7 @@ send_fits writes lawful touches w l lost c reads within f = go (pair_at w l).sen
   d = f.down l within
 
   go : (h : SendHold) → (pair_at w l).send ≡ h → Fitting (send_steps w l lost)
-  go (SendDoes act) is = subst (λ (x : SendHold). Fitting (send_steps_by w l lost x)) (sym is) (with_fits w l (send_does (pair_at w l) lost act) within (send_does_down (pair_at w l) lost act (subst SendsFit is d.says) d) f)
+  go (SendDoes act) is = subst (λ (x : SendHold). Fitting (send_steps_by w l lost x)) (sym is) (with_fits w l (send_does (pair_at w l) lost act) within (send_does_down FitsMessage any_piece (pair_at w l) lost act (subst (SaysOf FitsMessage) is d.says) d) f)
   go (SendHas i) is =
       subst (λ (x : SendHold). Fitting (send_steps_by w l lost x)) (sym is)
       record {
@@ -258,10 +272,6 @@ send_fits writes lawful touches w l lost c reads within f = go (pair_at w l).sen
         stamps = subst (λ (m : List Entry). (file : ℕ) (entry : Entry) → slice_get m file ≡ Some entry → entry.stamp ≤ 2 ^ 64 - 1) (sym (touches w.sender (number l) i).manifest) f.stamps;
         receiver = f.receiver;
         down = pair_fits w.pairs l (send_takes (pair_at w l) i (past_at (send_turn w.sender (number l) i).1 l).is_greeted (send_turn w.sender (number l) i).0) within
-            (takes_fits (pair_at w l) i (past_at (send_turn w.sender (number l) i).1 l).is_greeted (send_turn w.sender (number l) i).0 (act_fits w.sender.manifest (send_turn w.sender (number l) i).0 f.stamps (writes w.sender (number l) i c.sender f.sender (subst (λ (n : ℕ). l < n) (sym c.send_lanes) within) (reads i is))) d) f.down;
+            (takes_fits FitsMessage any_piece (pair_at w l) i (past_at (send_turn w.sender (number l) i).1 l).is_greeted (send_turn w.sender (number l) i).0 (act_fits w.sender.manifest (send_turn w.sender (number l) i).0 f.stamps (writes w.sender (number l) i c.sender f.sender (subst (λ (n : ℕ). l < n) (sym c.send_lanes) within) (reads i is))) d) f.down;
       }
 
--- a cut leaves what was written
-pub cuts_fit : (p : Pair) (d u : ℕ) (o : Option Link) → DownFitsBy o → FitsDown p → FitsDown (cuts_by p d u o)
-cuts_fit p d u None t f = f
-cuts_fit p d u (Some k) t f = top_down p (cut_link d u k) p.send p.recv t f.hand f.says f

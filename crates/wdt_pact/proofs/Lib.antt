@@ -68,3 +68,5 @@ mod TellingUp
 mod RecvTalks
 mod TellingSteps
 mod TellingAll
+mod Planning
+mod Emptying

@@ -155,11 +155,11 @@ pub data Seen (r : PlainReceiver) (l : ℕ) (put : Put) (step : Step) : Type 0 w
   -- the lane tells of closed ones
   Tells : (t : PlainReceiver) (q : ℕ) (qs : List ℕ) → Point r l put t.history → length t.lanes ≡ length r.lanes → untold_at t l ≡ q ∷ qs → step ≡ tells_by t (number l) (q ∷ qs) → Seen r l put step
   -- the finish comes
-  Ends : (t : PlainReceiver) → Point r l put t.history → length t.lanes ≡ length r.lanes → has_finish t ≡ false → can_finish t ≡ true → step.1.history ≡ t.history ++ events.Finish ∷ [] → Seen r l put step
+  Ends : (t : PlainReceiver) → is_failure r.answer ≡ false → Point r l put t.history → length t.lanes ≡ length r.lanes → has_finish t ≡ false → can_finish t ≡ true → step.1.history ≡ t.history ++ events.Finish ∷ [] → Seen r l put step
 
 -- ---- each outcome
 
-logged_history : (t : PlainReceiver) (bs : List Block) → (all_logged_by t bs).history ≡ t.history
+pub logged_history : (t : PlainReceiver) (bs : List Block) → (all_logged_by t bs).history ≡ t.history
 logged_history t [] = refl
 logged_history t (b ∷ bs) = refl
 
@@ -203,6 +203,11 @@ module _ (w : PlainWorld) (l : ℕ) (c : Conversation w) (within : l < length w.
   point t (ByWait serves given is) = WasIdle (ap (λ (x : PlainReceiver). x.history) is) (recv_fares w l states.SendWait c within serves.here).0.idle
   point t (ByWaking serves given is) = WasIdle (ap (λ (x : PlainReceiver). x.history) is) (recv_fares w l states.WaitForFinish c within serves.here).0.idle
 
+  sound_at : (t : PlainReceiver) → outcomes.Idles w.receiver (number l) put t → is_failure w.receiver.answer ≡ false
+  sound_at t (ByDone serves sized given is) = serves.sound
+  sound_at t (ByWait serves given is) = serves.sound
+  sound_at t (ByWaking serves given is) = serves.sound
+
   many : (t : PlainReceiver) → outcomes.Idles w.receiver (number l) put t → length t.lanes ≡ length w.receiver.lanes
   many t (ByDone serves sized given is) = ap (λ (x : PlainReceiver). length x.lanes) is ∙ length-set w.receiver.lanes l _
   many t (ByWait serves given is) = ap (λ (x : PlainReceiver). length x.lanes) is ∙ length-set w.receiver.lanes l _
@@ -210,7 +215,7 @@ module _ (w : PlainWorld) (l : ℕ) (c : Conversation w) (within : l < length w.
 
   concludes : (t : PlainReceiver) → outcomes.Concludes w.receiver (number l) put t → Sees (says_done t (number l))
   concludes t (WasFinished u idles come) = Asks (point u idles) (inr (inl come))
-  concludes t (IsFinished u fin none) = Ends u (point u fin.idles) (many u fin.idles) fin.first fin.ready (ap (λ (g : List RecvEvent). g ++ events.Finish ∷ []) (logged_history u u.unlogged))
+  concludes t (IsFinished u fin none) = Ends u (sound_at u fin.idles) (point u fin.idles) (many u fin.idles) fin.first fin.ready (ap (λ (g : List RecvEvent). g ++ events.Finish ∷ []) (logged_history u u.unlogged))
 
   -- ---- a lane that has no connection
 

@@ -156,10 +156,10 @@ module _ (comes : (s : PlainSender) (k : Lane) (i : SendIn) → Comes s k i (sen
   acked : (past_at w.sender l).is_acked ≡ false
   acked = lane_acked w l c within lives
 
-  hands_not : {P : Type 0} (i : SendIn) → input ≡ i → (SendBelongs (SendHas i) (lane_at w.sender l) → ⊥) → P
+  pub hands_not : {P : Type 0} (i : SendIn) → input ≡ i → (SendBelongs (SendHas i) (lane_at w.sender l) → ⊥) → P
   hands_not {P} i is none = absurd (none (subst (λ (x : SendIn). SendBelongs (SendHas x) (lane_at w.sender l)) is belongs))
 
-  rested : {P : Type 0} → reasons.Rests w.sender (number l) input → P
+  pub rested : {P : Type 0} → reasons.Rests w.sender (number l) input → P
   rested (WasOver here) = absurd (both_ways (is_ended (state_at w.sender l)) lives (ap is_ended here))
   rested (WasStray st serves stray) = absurd (both_ways (is_allowed st input) stray (ap (λ (x : SendState). is_allowed x input) (sym serves.here) ∙ has_row input (lane_at w.sender l) belongs))
   rested (WasSettled st serves up given answer) = hands_not inputs.Starved given (λ b. b)
@@ -174,7 +174,7 @@ module _ (comes : (s : PlainSender) (k : Lane) (i : SendIn) → Comes s k i (sen
   unmarked : (i : SendIn) → input ≡ i → ((q : ℕ) → marked_in q (send_in_hand (SendHas i)) ≡ false) → (q : ℕ) → marked_in q (send_in_hand (SendHas input)) ≡ true → ⊥
   unmarked i given none q m = both_ways (marked_in q (send_in_hand (SendHas i))) (none q) (ap (λ (x : SendIn). marked_in q (send_in_hand (SendHas x))) (sym given) ∙ m)
 
-  open_none : is_closed w.sender l ≡ false → (past_at w.sender l).claims.closed ≡ None
+  pub open_none : is_closed w.sender l ≡ false → (past_at w.sender l).claims.closed ≡ None
   open_none e = none_of (past_at w.sender l).claims.closed e
 
   -- ---- how the lane stands behind

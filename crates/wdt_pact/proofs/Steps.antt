@@ -29,7 +29,7 @@ use Rattle.wdt_receiver_fsm.specs.PlainReceiver.{PlainReceiver}
 use Rattle.wdt_receiver_fsm.specs.Turn.{Bytes, Given, Put}
 use Rattle.wdt_pact.specs.Belongs.{RecvBelongs, RecvBelongsAt, SendBelongs, SendBelongsAt}
 use Rattle.wdt_pact.specs.Finishing.{Finishing}
-use Rattle.wdt_pact.specs.Fitting.{FitsDown, IsSound, lane_of}
+use Rattle.wdt_pact.specs.Fitting.{FitsDown, FitsMessage, IsSound, lane_of}
 use Rattle.wdt_pact.specs.Links.{Link, Way, front, is_cut, size_down, size_up}
 use Rattle.wdt_pact.specs.Pairs.{Pair, RecvHold, RecvDoes, RecvHas, RecvTook, SendHold, SendDoes, SendHas, cuts_by, recv_accepts, recv_accepts_by, recv_does, recv_gets, recv_nothing, recv_reads, recv_reads_by, recv_stops, recv_takes, recv_takes_by, recv_writes, send_dials, send_does, send_left, send_loses, send_reads, send_reads_by, send_sends, send_stops, send_takes, send_writes, top}
 use Rattle.wdt_pact.specs.World.{PlainWorld, WorldEvent, Sends, Receives, Cut, Deny, Refuse, happens, number, pair_at, recv_steps, recv_steps_by, recv_turn, recv_turned, recv_woken, send_steps, send_steps_by, some_bytes, with_pair}
@@ -39,7 +39,7 @@ use Rattle.wdt_pact.proofs.Connecting.{cut_keeps}
 use Rattle.wdt_pact.proofs.CutLaw.{AllSplit, pair_splits, recv_splits, send_splits}
 use Rattle.wdt_pact.proofs.CutSteps.{cuts_split}
 use Rattle.wdt_pact.proofs.Cuts.{IsSplit}
-use Rattle.wdt_pact.proofs.Fitting.{cuts_fit, read_fits, recv_fits, send_fits, tops, with_fits}
+use Rattle.wdt_pact.proofs.Fitting.{any_piece, cuts_fit, read_fits, recv_fits, send_fits, tops, with_fits}
 use Rattle.wdt_pact.proofs.Frame.{pair_keeps}
 use Rattle.wdt_pact.proofs.Promised.{SenderKeeps}
 use Rattle.wdt_pact.proofs.RecvBelonging.{pair_belongs as recv_pair_belongs, recv_belongs}
@@ -234,7 +234,7 @@ module _ (keeps : SenderKeeps) (comes : (s : PlainSender) (k : Lane) (i : SendIn
       record {
         talk = cut_keeps w l d u s.talk within;
         belongs = record { send = keeps_send w l (cuts_by p d u (top p)) within (cuts_send p d u (top p)) s.belongs.send; recv = keeps_recv w l (cuts_by p d u (top p)) within (cuts_recv p d u (top p)) s.belongs.recv };
-        fits = with_fits w l (cuts_by p d u (top p)) within (cuts_fit p d u (top p) (tops p.newest p.taken (s.fits.down l within).newest (s.fits.down l within).taken) (s.fits.down l within)) s.fits;
+        fits = with_fits w l (cuts_by p d u (top p)) within (cuts_fit FitsMessage any_piece p d u (top p) (tops FitsMessage any_piece p.newest p.taken (s.fits.down l within).newest (s.fits.down l within).taken) (s.fits.down l within)) s.fits;
         cut = λ k b. (x k b).cut;
         even = λ k b. (x k b).even;
       }

@@ -213,7 +213,7 @@ module _ (w : PlainWorld) (l : ℕ) (s : IsSound w) (f : Finishing w) (within : 
 
       told : has (k ∷ ks) q ≡ true
       told = sym (has_set (k ∷ ks) q) ∙ in_filter (has_lane (set_of (k ∷ ks))) (numbers 16) q (ap (λ (x : RecvPast). has x.telling q) (sym past) ∙ e)
-    go (Ends t p many first ready is) =
+    go (Ends t sound p many first ready is) =
         none_told q (ap (λ (g : List RecvEvent). (past_of g l).telling) is ∙ (ap (λ (x : RecvPast). x.telling) (past_of-append t.history (events.Finish ∷ []) l) ∙ point_telling w.receiver l put t.history legal p)) e
 
   pub recv_turn_tells : Tellings (recv_turned w l step)

@@ -5,12 +5,14 @@ use Rattle.wdt_codec.specs.declared.frames.Frame.{Frame}
 use Rattle.wdt_codec.specs.declared.frames.Frame.TheVariants as frames
 use Rattle.wdt_codec.specs.declared.frames.Mark.{Mark}
 use Rattle.wdt_sender_fsm.specs.declared.acts.SendAct.TheVariants as acts
-use Rattle.wdt_sender_fsm.specs.Phases.{Message}
+use Rattle.wdt_sender_fsm.specs.Phases.{Message, Framed}
 use Rattle.wdt_sender_fsm.specs.PlainSender.{is_closed, waiting_blocks}
 use Rattle.wdt_sender_fsm.specs.Rules.{is_failure}
 use Rattle.wdt_receiver_fsm.specs.PlainReceiver as recv
 use Rattle.wdt_receiver_fsm.specs.Ready.{is_confirmed}
+use Rattle.wdt_receiver_fsm.specs.ReceiverHistory.{end_of}
 use Rattle.wdt_receiver_fsm.specs.Sets.{has}
+use Rattle.wdt_pact.specs.Fitting.{GoesDown}
 use Rattle.wdt_pact.specs.Links.{Link}
 use Rattle.wdt_pact.specs.Pairs.{SendHold, SendDoes}
 use Rattle.wdt_pact.specs.World.{PlainWorld, pair_at}
@@ -84,6 +86,13 @@ IsTelling w l q =
     ⊎ (((pair_at w l).newest ≡ None) × IsTalking (sends_at w l) × (marked_in q (send_in_hand (pair_at w l).send ++ up_sent (pair_at w l).taken) ≡ true)
     ⊎ ((((pair_at w l).newest ≡ None) → IsTalking (sends_at w l) → ⊥) × (has_done (in_hand (pair_at w l).recv ++ down_sent (pair_at w l).taken) ≡ false))))
 
+-- ---- a plan
+
+-- what is sent in all is told by a sender that has a plan
+abbrev pub ComesOfPlan : Bool → Message → Type 0
+ComesOfPlan planned (Framed (frames.Size files bytes)) = planned ≡ true
+ComesOfPlan planned message = Unit {0}
+
 -- ---- all lanes together
 
 pub record Finishing (w : PlainWorld) : Type 0 where
@@ -95,6 +104,9 @@ pub record Finishing (w : PlainWorld) : Type 0 where
   pub witness : is_failure w.receiver.answer ≡ false → (waiting_blocks w.sender ≡ [] → ⊥) → (l : ℕ) × (l < length w.pairs) × IsBusy w l
   -- a finish that is ready has come
   pub ready : is_failure w.receiver.answer ≡ false → recv.can_finish w.receiver ≡ true → recv.has_finish w.receiver ≡ true
+  -- what is sent in all is told, and was read, only where the sender has a plan
+  pub tells : (l : ℕ) → l < length w.pairs → GoesDown (ComesOfPlan (is_some w.sender.have)) (pair_at w l)
+  pub sized : ((end_of w.receiver.history).sized ≡ None → ⊥) → is_some w.sender.have ≡ true
   -- behind the finish no block waits, and the sender has a plan
   pub empty : recv.has_finish w.receiver ≡ true → waiting_blocks w.sender ≡ []
   pub planned : recv.has_finish w.receiver ≡ true → is_some w.sender.have ≡ true

@@ -1,7 +1,7 @@
 -- What goes down lies in the grammar's ranges, both ends keep to theirs, and what every world without a stop keeps.
 use Rattle.std.specs.Prelude.{◌≡◌, ℕ, ◌<◌, ◌≤◌, ◌-◌, ◌^◌, length, slice_get, Option, Some, None}
-use Rattle.wdt_units.specs.Headers.{FitsHeader}
 use Rattle.wdt_codec.specs.Frames.{Fits}
+use Rattle.wdt_codec.specs.declared.frames.Frame.TheVariants as frames
 use Rattle.wdt_sender_fsm.specs.declared.acts.SendAct.TheVariants as acts
 use Rattle.wdt_sender_fsm.specs.Phases.{Message, Framed, Piece}
 use Rattle.wdt_sender_fsm.specs.PlainSender as sender
@@ -23,28 +23,32 @@ abbrev pub FitsMessage : Message → Type 0
 FitsMessage (Framed frame) = Fits frame
 FitsMessage (Piece n) = Unit {0}
 
--- what the sender's lane is about to write does
-abbrev pub SendsFit : SendHold → Type 0
-SendsFit (SendDoes (acts.Write frame)) = Fits frame
-SendsFit (SendDoes (acts.SendBlock header)) = FitsHeader header
-SendsFit _ = Unit {0}
-
--- what goes down on a connection does
-abbrev pub DownFits : Link → Type 0
-DownFits k = Each FitsMessage k.down.sent
+-- what goes down on a connection is of a kind
+abbrev pub DownOf : (Message → Type 0) → Link → Type 0
+DownOf P k = Each P k.down.sent
 
 -- the same, where there is one
-abbrev pub DownFitsBy : Option Link → Type 0
-DownFitsBy None = Unit {0}
-DownFitsBy (Some k) = DownFits k
+abbrev pub DownBy : (Message → Type 0) → Option Link → Type 0
+DownBy P None = Unit {0}
+DownBy P (Some k) = DownOf P k
 
--- all that the sender's lane writes, what goes down on its connections, and what the receiver's lane has read
-pub record FitsDown (p : Pair) : Type 0 where
-  pub hand : Each FitsMessage (in_hand p.recv)
-  pub says : SendsFit p.send
-  pub taken : DownFitsBy p.taken
-  pub between : Each DownFits p.between
-  pub newest : DownFitsBy p.newest
+-- so is what the sender's lane is about to write: of a block its header is
+abbrev pub SaysOf : (Message → Type 0) → SendHold → Type 0
+SaysOf P (SendDoes (acts.Write frame)) = P (Framed frame)
+SaysOf P (SendDoes (acts.SendBlock header)) = P (Framed (frames.Block header))
+SaysOf P _ = Unit {0}
+
+-- of a kind is all that the sender's lane writes, what goes down on its connections, and what the receiver's lane has read
+pub record GoesDown (P : Message → Type 0) (p : Pair) : Type 0 where
+  pub hand : Each P (in_hand p.recv)
+  pub says : SaysOf P p.send
+  pub taken : DownBy P p.taken
+  pub between : Each (DownOf P) p.between
+  pub newest : DownBy P p.newest
+
+-- all of it lies in the grammar's ranges
+abbrev pub FitsDown : Pair → Type 0
+FitsDown = GoesDown FitsMessage
 
 -- the sender is within its limits, each stamp is one of 64 bits, the receiver can tell what its log said as it was
 -- opened, and what goes down on each lane lies in the grammar's ranges

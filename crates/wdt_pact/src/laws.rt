@@ -1,7 +1,7 @@
 //! Laws of two ends and their connections, by messages. The functions do nothing: their contracts are
 //! the laws. `specs/Conversation` says how the two ends of each lane fit together; that a step keeps it is
 //! said of each kind of step.
-ghost use Rattle.std.specs.Prelude.{◌≡◌, ◌⊎◌, ℕ, ◌-◌, ◌^◌, ◌<◌, ◌≤◌, ◌++◌, List, [], ◌∷◌, length, replicate, slice_get, take, true, false, Bool, Option, Some, None};
+ghost use Rattle.std.specs.Prelude.{◌≡◌, ◌⊎◌, ℕ, ◌-◌, ◌^◌, ◌<◌, ◌≤◌, ◌++◌, List, [], ◌∷◌, length, replicate, slice_get, take, true, false, Bool, is_some, Option, Some, None};
 ghost use Rattle.wdt_units.specs.declared.blocks.Block.{Block};
 ghost use Rattle.wdt_units.specs.declared.blocks.Header.{Header};
 ghost use Rattle.wdt_units.specs.declared.numbers.Conn.{Conn};
@@ -35,14 +35,15 @@ ghost use Rattle.wdt_receiver_fsm.specs.PlainReceiver.{have_now};
 ghost use Rattle.wdt_receiver_fsm.specs.Rows as recv_rows;
 ghost use Rattle.wdt_receiver_fsm.specs.Rows.{is_reading as receives_in};
 ghost use Rattle.wdt_receiver_fsm.specs.Ready.{is_confirmed, is_ready};
+ghost use Rattle.wdt_receiver_fsm.specs.ReceiverHistory.{end_of};
 ghost use Rattle.wdt_receiver_fsm.specs.Sets.{has};
 ghost use Rattle.wdt_receiver_fsm.specs.Writes.{CanTell};
 ghost use Rattle.wdt_pact.specs.Belongs.{RecvBelongsAt, RecvFits, SendBelongsAt};
 ghost use Rattle.wdt_pact.specs.Bytes.{FitsFront, FrontDown, FrontUp, bytes_down, bytes_up};
 ghost use Rattle.wdt_pact.specs.Conversation.{Conversation, common, receives, receiving, sending, sends};
 ghost use Rattle.wdt_pact.specs.Each.{Each};
-ghost use Rattle.wdt_pact.specs.Finishing.{Finishing, IsTelling, receives_at, telling};
-ghost use Rattle.wdt_pact.specs.Fitting.{IsSound, lane_of};
+ghost use Rattle.wdt_pact.specs.Finishing.{ComesOfPlan, Finishing, IsTelling, receives_at, telling};
+ghost use Rattle.wdt_pact.specs.Fitting.{GoesDown, IsSound, lane_of};
 ghost use Rattle.wdt_pact.specs.Links.{front, size_down, size_up};
 ghost use Rattle.wdt_pact.specs.Lists.{Splits};
 ghost use Rattle.wdt_pact.specs.Pairs.{RecvDoes, RecvHas, RecvTook, SendDoes, SendHas};
@@ -257,6 +258,21 @@ pub fn a_ready_finish_comes()
 pub fn tellings_reach_the_sender()
     ensures { (w : PlainWorld) (e : WorldEvent) → IsSound w → Finishing w → lane_of e < length w.pairs → (l q : ℕ) → l < length (happens w e).pairs
         → IsTalking (receives_at (happens w e) l) → has (telling (happens w e) l) q ≡ true → IsTelling (happens w e) l q }
+{
+    histories_are_sound();
+    steps_have_outcomes();
+    steps_touch_their_lane();
+}
+
+/// Whatever happens to a sound world, behind the finish no block waits at the sender, and the sender has a plan, so that none will.
+/// What is sent in all is told, and was read, only where the sender has one.
+pub fn nothing_waits_behind_the_finish()
+    ensures empty { (w : PlainWorld) (e : WorldEvent) → IsSound w → Finishing w → lane_of e < length w.pairs → recv.has_finish (happens w e).receiver ≡ true → waiting_blocks (happens w e).sender ≡ [] }
+    ensures planned { (w : PlainWorld) (e : WorldEvent) → IsSound w → Finishing w → lane_of e < length w.pairs → recv.has_finish (happens w e).receiver ≡ true → is_some (happens w e).sender.have ≡ true }
+    ensures told { (w : PlainWorld) (e : WorldEvent) (l : ℕ) → IsSound w → Finishing w → lane_of e < length w.pairs → l < length (happens w e).pairs
+        → GoesDown (ComesOfPlan (is_some (happens w e).sender.have)) (pair_at (happens w e) l) }
+    ensures sized { (w : PlainWorld) (e : WorldEvent) → IsSound w → Finishing w → lane_of e < length w.pairs → ((end_of (happens w e).receiver.history).sized ≡ None → ⊥)
+        → is_some (happens w e).sender.have ≡ true }
 {
     histories_are_sound();
     steps_have_outcomes();
