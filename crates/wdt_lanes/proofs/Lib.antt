@@ -1,2 +1,6 @@
+pub mod Ending
+pub mod Flagging
+pub mod Flags
 pub mod Keeping
+pub mod Seating
 pub mod Sending

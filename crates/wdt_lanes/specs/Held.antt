@@ -1,5 +1,5 @@
 -- A dialer or an acceptor with the connection of it that a lane holds.
-use Rattle.std.specs.Prelude.{◌≡◌, ◌≤◌, ℕ, Bool, true, Option, Some, None, IfSome}
+use Rattle.std.specs.Prelude.{◌≡◌, ◌≤◌, ◌⊎◌, ℕ, Bool, true, Option, Some, None, IfSome}
 use Rattle.wdt_units.specs.Counts.{Rises}
 
 -- how many connections are held
@@ -21,3 +21,8 @@ told_in told (Some link) = told link
 pub record RoseFor (came : Bool) (old new : ℕ) : Type 0 where
   pub later : old ≤ new
   pub rose : came ≡ true → Rises old new
+
+-- a count that doesn't fall, and a flag that was there or came with a rise of it
+pub record Flagged (was is : Bool) (old new : ℕ) : Type 0 where
+  pub later : old ≤ new
+  pub rose : is ≡ true → (was ≡ true) ⊎ Rises old new

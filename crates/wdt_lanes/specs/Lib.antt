@@ -1,4 +1,6 @@
 pub mod Acts
 pub mod Held
 pub mod Kept
+pub mod LaneLists
 pub mod Performing
+pub mod Seats
