@@ -41,7 +41,7 @@ known_below [] n file there = absurd (cc)
 known_below (slot ∷ slots) zero file there = omega arith
 known_below (slot ∷ slots) (suc n) file there = omega (arith, known_below slots n file there)
 
-few_files : (known : List (Option KnownFile)) (fs : List NamedFile) → AreFiles known → AreNamed known fs → length fs ≤ MAX_FILES
+pub few_files : (known : List (Option KnownFile)) (fs : List NamedFile) → AreFiles known → AreNamed known fs → length fs ≤ MAX_FILES
 few_files known fs files named =
     let most : length fs + 0 ≤ length known = few_rising 0 (length known) fs (omega arith) (view_parts fs named.view).rising (λ g among. (omega arith, known_below known g.number _ (named.known_as g among))) in
     omega (arith, most, files.few)

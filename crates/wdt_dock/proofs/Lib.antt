@@ -6,6 +6,7 @@ mod Fewness
 mod Finishing
 mod Flushed
 mod Goodness
+mod HaveTold
 mod Keeping
 mod LandRow
 mod LandedBlock

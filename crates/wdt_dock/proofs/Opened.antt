@@ -120,7 +120,7 @@ known_named f n k (g ∷ gs) above (inr later) at =
     known_later (g.number - n) k (f.number - (g.number + 1)) (known_of g) (slots_from (g.number + 1) gs) (omega (arith, at, above.0, low))
     ∙ known_named f (g.number + 1) (f.number - (g.number + 1)) gs above.1 later (omega (arith, low))
 
-log_named : (fs : List NamedFile) → is_view fs ≡ true → AreNamed (known_files fs) fs
+pub log_named : (fs : List NamedFile) → is_view fs ≡ true → AreNamed (known_files fs) fs
 log_named fs view = record { view = view; known_as = λ f among. known_named f 0 f.number fs (above_rising fs (view_parts fs view).rising) among (omega arith) }
 
 no_part : (n l : ℕ) → part_of (no_parts n) l ≡ None

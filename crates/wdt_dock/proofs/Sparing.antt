@@ -1,10 +1,9 @@
 -- What a call leaves alone of what is read, change by change.
-use Rattle.std.proofs.Common.{◌≡◌, ◌⊎◌, inl, inr, ℕ, ◌<◌, ◌≤◌, ◌&&◌, Bool, true, false, List, [], ◌∷◌, length, Option, Some, None, Result, Ok, Err, refl, sym, ap, ◌∙◌, subst, arith}
+use Rattle.std.proofs.Common.{◌≡◌, inl, inr, ℕ, ◌<◌, ◌≤◌, ◌&&◌, Bool, true, false, List, [], ◌∷◌, length, Option, Some, None, Result, Ok, Err, refl, sym, ap, ◌∙◌, subst, arith}
 use Rattle.std.specs.Prelude.{IsSome, option_map, slice_index}
 use Rattle.std.specs.Str.{bytes_eq}
 use Rattle.std.proofs.lemmas.Bool.{and_parts, or_cases}
 use Rattle.std.proofs.lemmas.Slice.Eq.{bytes_eq-Decides}
-use Rattle.wdt_units.specs.declared.blocks.Block.{Block}
 use Rattle.wdt_units.specs.declared.blocks.Header.{Header}
 use Rattle.wdt_units.specs.declared.numbers.Lane.{Lane}
 use Rattle.wdt_codec.specs.declared.frames.Frame.{Frame}
@@ -16,15 +15,15 @@ use Rattle.wdt_depot.specs.Rewritten.{range_at}
 use Rattle.wdt_depot.specs.State.{State}
 use Rattle.wdt_depot.proofs.ForCallers.{length-spliced, seen_outside_write, with_file-other, with_file-same}
 use Rattle.wdt_logfmt.specs.Batches.{path_at}
-use Rattle.wdt_logfmt.specs.Beginning.{BeginFault, KnownFile, is_new, number_of}
+use Rattle.wdt_logfmt.specs.Beginning.{BeginFault, KnownFile, is_new}
 use Rattle.wdt_logfmt.specs.Landing.{IsAmong}
 use Rattle.wdt_logfmt.specs.View.{NamedFile}
 use Rattle.wdt_logfmt.proofs.ForCallers.{number_new}
 use Rattle.wdt_good.specs.Changing.{IsClear}
-use Rattle.wdt_good.specs.Good.{covers, log_path, new_log_path}
+use Rattle.wdt_good.specs.Good.{covers}
 use Rattle.wdt_good.proofs.ForCallers.{each_in}
 use Rattle.wdt_files.specs.PlainFiles.{AreFiles, AreNamed, known_of}
-use Rattle.wdt_log.specs.Flushing.{KeepsReads, ReadsStand}
+use Rattle.wdt_log.specs.Flushing.{ReadsStand}
 use Rattle.wdt_log.specs.OpenLog.{OpenLog}
 use Rattle.wdt_writer.specs.declared.fail.WriteFail.{WriteFail}
 use Rattle.wdt_writer.specs.Answers.{fault_at}

@@ -8,8 +8,9 @@ use Rattle.wdt_depot.specs.Programs.{Calls, Drive, IsQuiet, drive_of}
 use Rattle.wdt_depot.specs.State.{State}
 use Rattle.wdt_logfmt.specs.Batches.{path_at}
 use Rattle.wdt_logfmt.specs.Spelling.{written_version}
+use Rattle.wdt_logfmt.specs.View.{NamedFile}
 use Rattle.wdt_good.specs.Calls.{run_open}
-use Rattle.wdt_good.specs.Good.{log_of}
+use Rattle.wdt_good.specs.Good.{Each, log_of}
 use Rattle.wdt_good.specs.LogState.{LogOf}
 use Rattle.wdt_log.specs.declared.fail.LogFail.{LogFail}
 use Rattle.wdt_log.specs.declared.fail.LogFail.TheVariants as log
@@ -48,6 +49,14 @@ abbrev pub LogRests : PlainReceiver → State → Type 0
 LogRests r s = IfTold (λ t. LogOf written_version r.log.files r.log.end t.now) s.told
 
 -- ---- the opening
+
+-- the stamp of a file that a log names is one of 64 bits
+abbrev pub IsStamped : NamedFile → Type 0
+IsStamped f = f.have.stamp ≤ 18446744073709551615
+
+-- all of them are
+abbrev pub AreStamped : List NamedFile → Type 0
+AreStamped fs = Each IsStamped fs
 
 -- the depot behind an opening, which hands it back where it failed
 abbrev pub depot_behind : {D : Type 0} → Result (DockView D) (DockFail × D) → D

@@ -15,6 +15,7 @@ ghost use Rattle.wdt_receiver_fsm.specs.Batched.{IsBatched};
 ghost use Rattle.wdt_receiver_fsm.specs.Logging.{all_logged, flush_calls};
 ghost use Rattle.wdt_receiver_fsm.specs.PlainReceiver.{failed, has_finish, lane_at, new_lane, opened, state_at};
 ghost use Rattle.wdt_receiver_fsm.specs.Receiver.{IsReceiver};
+ghost use Rattle.wdt_receiver_fsm.specs.Writes.{CanTell};
 ghost use Rattle.wdt_dock.specs.Booked.{KnownStand};
 ghost use Rattle.wdt_dock.specs.Dock.{FailedBy, IsRefusal, LogRests, RanFlush, RanOpen, depot_behind, wanted};
 ghost use Rattle.wdt_dock.specs.DockGood.{IsGoodFor};
@@ -80,6 +81,7 @@ impl<D: Depot + Drop> Dock<D> {
         ensures rests { IfOk result (λ dock. LogRests dock.plain (D.state dock.depot)) }
         ensures receiver { IfOk result (λ dock. IsReceiver dock.plain) }
         ensures batched { IfOk result (λ dock. IsBatched dock.plain) }
+        ensures tells { IfOk result (λ dock. CanTell dock.plain) }
         ensures refused { IfErr result (λ back. IsRefusal (D.state depot).told back.0) }
 
         // At each moment, inside each call too, each image is good for the tree and for what was logged

@@ -1,9 +1,9 @@
 //! The opening of a dock.
 ghost use Rattle.std.specs.Prelude.{◌≡◌, ◌≤◌, List, map, replicate, IfOk, IsTrue};
-ghost use Rattle.wdt_logfmt.specs.View.{is_view, named_files};
+ghost use Rattle.wdt_logfmt.specs.View.{is_view, named_file, named_files};
 ghost use Rattle.wdt_writer.specs.PlainWriter.{opened};
-ghost use Rattle.wdt_dock.specs.Dock.{of_log};
 ghost use Rattle.wdt_receiver_fsm.specs.End.{new_end};
+ghost use Rattle.wdt_dock.specs.Dock.{AreStamped, IsStamped, of_log};
 
 use std::alloc::Global;
 use thiserror::Error;
@@ -50,6 +50,7 @@ pub fn parts_of(
     requires lanes { lanes ≤ MAX_LANES }
     ensures writer { IfOk result (λ parts. parts.0 ≡ opened (named_files (view.now).files.items) lanes) }
     ensures end { IfOk result (λ parts. parts.1 ≡ new_end (named_files (view.now).files.items) batch lanes) }
+    ensures stamped { IfOk result (λ _. AreStamped (named_files (view.now).files.items)) }
 {
     let writer = Writer::of(alloc, view, lanes)?;
     let end = RecvEnd::of(alloc, copy_of(alloc, view)?, lanes, batch)?;
@@ -58,7 +59,8 @@ pub fn parts_of(
 
 // The same in memory of its own.
 fn copy_of(alloc: Global, view: &LogView) -> Result<LogView, NoMemory>
-    ensures { IfOk result (λ copy. named_files copy.files.items ≡ named_files (view.now).files.items) }
+    ensures files { IfOk result (λ copy. named_files copy.files.items ≡ named_files (view.now).files.items) }
+    ensures stamped { IfOk result (λ _. AreStamped (named_files (view.now).files.items)) }
 {
     Ok(LogView {
         files: copies_of(alloc, &view.files)?,
@@ -67,15 +69,23 @@ fn copy_of(alloc: Global, view: &LogView) -> Result<LogView, NoMemory>
 }
 
 fn copies_of(alloc: Global, files: &[LogFile]) -> Result<Vec<LogFile>, NoMemory>
-    ensures { IfOk result (λ copies. named_files copies.items ≡ named_files files.now) }
+    ensures files { IfOk result (λ copies. named_files copies.items ≡ named_files files.now) }
+    ensures stamped { IfOk result (λ _. AreStamped (named_files files.now)) }
 {
     let mut copies = Vec::new(alloc);
     for file in files {
-        let copy = LogFile {
-            number: file.number,
-            have: file.have.copy()?,
-        };
-        copies.push(copy)?;
+        copies.push(copy_one(file)?)?;
     }
     Ok(copies)
+}
+
+// A file in memory of its own. Its stamp is one of 64 bits, as its type says.
+fn copy_one(file: &LogFile) -> Result<LogFile, NoMemory>
+    ensures value { IfOk result (λ copy. named_file copy ≡ named_file file.now) }
+    ensures stamped { IfOk result (λ _. IsStamped (named_file file.now)) }
+{
+    Ok(LogFile {
+        number: file.number,
+        have: file.have.copy()?,
+    })
 }

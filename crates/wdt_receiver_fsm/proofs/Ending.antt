@@ -1,7 +1,6 @@
 -- How an end's answer follows from its lanes.
-use Rattle.std.proofs.Common.{◌≡◌, ℕ, zero, suc, ◌<◌, ◌+◌, ◌&&◌, Bool, true, false, List, get_or, length, Option, refl, sym, ap, ◌∙◌, inl, inr, arith}
+use Rattle.std.proofs.Common.{◌≡◌, ℕ, ◌<◌, ◌+◌, ◌&&◌, Bool, true, List, get_or, length, Option, refl, ap, ◌∙◌}
 use Rattle.std.proofs.Common.{add-one}
-use Rattle.std.proofs.lemmas.Bool.{cases_eq}
 use Rattle.std.proofs.lemmas.Option.{slice_get-get_or}
 use Rattle.wdt_sender_fsm.specs.declared.answers.EndAnswer.{EndAnswer}
 use Rattle.wdt_sender_fsm.specs.Rules.{every}

@@ -1,5 +1,5 @@
 -- When a step's act is Park.
-use Rattle.std.proofs.Common.{◌≡◌, ℕ, zero, suc, ◌<◌, List, [], ◌∷◌, length, Bool, true, false, refl, sym, ap, ◌∙◌, subst}
+use Rattle.std.proofs.Common.{◌≡◌, ℕ, zero, suc, ◌<◌, List, [], length, Bool, true, false, refl, sym, ap, ◌∙◌, subst}
 use Rattle.std.proofs.lemmas.Bool.{both_ways}
 use Rattle.std.proofs.lemmas.List.{length-set}
 use Rattle.wdt_units.specs.declared.blocks.Block.{Block}
@@ -15,11 +15,11 @@ use Rattle.wdt_receiver_fsm.specs.declared.states.RecvState.TheVariants as state
 use Rattle.wdt_receiver_fsm.specs.Outcomes.{Acknowledged, Begun, ByDone, ByWait, ByWaking, Comes, ComesOf, Concluded, Ended, Failed, GivenUp, Greeted, Idles, IsIdle, Left, Linked, Listed, Listened, Outcome, ReadOn, Rested, Sized, Taken, Told, Waited, Warned, came_to}
 use Rattle.wdt_receiver_fsm.specs.Plan.{EndsIn, Plan, ends}
 use Rattle.wdt_receiver_fsm.specs.PlainReceiver.{PlainReceiver, can_finish, failed, has_finish, lane_at, past_at, state_at, untold_at}
-use Rattle.wdt_receiver_fsm.specs.Ready.{is_idle, is_ready, untold}
+use Rattle.wdt_receiver_fsm.specs.Ready.{is_ready, untold}
 use Rattle.wdt_receiver_fsm.specs.Receiver.{Fares, IsReceiver}
 use Rattle.wdt_receiver_fsm.specs.ReceiverHistory.{end_of}
 use Rattle.wdt_receiver_fsm.specs.Stops.{Parks, belongs, is_waiting}
-use Rattle.wdt_receiver_fsm.specs.Turn.{Given, Put, Step, begins_by, greets_by, idle_by, idle_plan, idles_lane, leaves, meets, tells_by, tells_failure, turn_plan, waited_lane, waits_by}
+use Rattle.wdt_receiver_fsm.specs.Turn.{Given, Put, Step, begins_by, greets_by, idle_by, leaves, meets, tells_by, tells_failure, turn_plan, waited_lane, waits_by}
 use Rattle.wdt_receiver_fsm.proofs.HeldActs.{lane_set}
 use Rattle.wdt_receiver_fsm.proofs.RowSteps.{chooses}
 

@@ -1,5 +1,5 @@
 -- When a step's act is Stop.
-use Rattle.std.proofs.Common.{◌≡◌, ◌⊎◌, inl, inr, ℕ, zero, suc, ◌<◌, ◌≤◌, ◌&&◌, ◌||◌, not, List, [], ◌∷◌, ◌++◌, length, Bool, true, false, is_some, Option, Some, None, refl, sym, ap, ◌∙◌, subst}
+use Rattle.std.proofs.Common.{◌≡◌, ◌⊎◌, inl, inr, ℕ, zero, suc, ◌<◌, ◌&&◌, ◌||◌, not, List, length, Bool, true, false, Option, refl, sym, ap, ◌∙◌, subst}
 use Rattle.std.proofs.lemmas.Bool.{both_ways, or_from}
 use Rattle.wdt_units.specs.declared.blocks.Block.{Block}
 use Rattle.wdt_units.specs.declared.blocks.Header.{Header}
@@ -11,26 +11,23 @@ use Rattle.wdt_sender_fsm.specs.declared.answers.EndAnswer.{EndAnswer}
 use Rattle.wdt_sender_fsm.specs.declared.answers.EndAnswer.TheVariants as answers
 use Rattle.wdt_sender_fsm.specs.declared.peers.PeerKind.{PeerKind}
 use Rattle.wdt_sender_fsm.specs.Rules.{by_voice, is_failure, starved}
-use Rattle.wdt_receiver_fsm.specs.declared.acts.RecvAct.{RecvAct}
-use Rattle.wdt_receiver_fsm.specs.declared.acts.RecvAct.TheVariants as acts
-use Rattle.wdt_receiver_fsm.specs.declared.events.RecvEvent.TheVariants as events
 use Rattle.wdt_receiver_fsm.specs.declared.inputs.RecvIn.{RecvIn}
 use Rattle.wdt_receiver_fsm.specs.declared.inputs.RecvIn.TheVariants as inputs
 use Rattle.wdt_receiver_fsm.specs.declared.states.RecvLane.{RecvLane}
 use Rattle.wdt_receiver_fsm.specs.declared.states.RecvState.{RecvState}
 use Rattle.wdt_receiver_fsm.specs.declared.states.RecvState.TheVariants as states
-use Rattle.wdt_receiver_fsm.specs.Acts.{act_in, act_of}
-use Rattle.wdt_receiver_fsm.specs.Answered.{IsAnswered, has_all_done}
-use Rattle.wdt_receiver_fsm.specs.Outcomes.{Acknowledged, AtFirst, Begins, Begun, ByChunks, ByDone, ByGreeting, ByLanding, ByLogging, ByLoss, ByMarks, ByNoLink, ByWait, ByWaking, Comes, ComesOf, Concluded, Concludes, Ended, Failed, Fails, GivenUp, Greeted, Idles, IsFinished, Lands, Left, Linked, Listed, Listened, Listens, Mistakes, NoFrame, NoPlace, OfFinish, OfKnown, OfLog, OfMake, OfMemory, OfNew, OfPeer, OfSender, OfShort, OfWrite, OtherSize, Outcome, ReadOn, ReadsOn, Rested, Rests, Serves, Sized, Taken, Told, Waited, Warned, WasFinished, WasMute, WasNoBlock, WasOver, WasSettled, WasStray, WasTold, WrongBlock, WrongSettings, came_to, is_linked}
-use Rattle.wdt_receiver_fsm.specs.PlainReceiver.{PlainReceiver, every_lane, failed, has_finish, is_done_with, is_ended, is_out, lane_at, noted, past_at, state_at, with_lane}
+use Rattle.wdt_receiver_fsm.specs.Acts.{act_in}
+use Rattle.wdt_receiver_fsm.specs.Answered.{IsAnswered}
+use Rattle.wdt_receiver_fsm.specs.Outcomes.{Acknowledged, AtFirst, Begins, Begun, ByChunks, ByDone, ByGreeting, ByLanding, ByLogging, ByLoss, ByMarks, ByNoLink, ByWait, ByWaking, Comes, ComesOf, Concluded, Concludes, Ended, Failed, Fails, GivenUp, Greeted, Idles, IsFinished, Left, Linked, Listed, Listened, Listens, Mistakes, NoFrame, NoPlace, OfFinish, OfKnown, OfLog, OfMake, OfMemory, OfNew, OfPeer, OfSender, OfShort, OfWrite, OtherSize, Outcome, ReadOn, ReadsOn, Rested, Rests, Sized, Taken, Told, Waited, Warned, WasFinished, WasMute, WasNoBlock, WasOver, WasSettled, WasStray, WasTold, WrongBlock, WrongSettings, came_to, is_linked}
+use Rattle.wdt_receiver_fsm.specs.PlainReceiver.{PlainReceiver, every_lane, failed, has_finish, is_done_with, is_ended, is_out, lane_at, past_at, state_at}
 use Rattle.wdt_receiver_fsm.specs.Receiver.{Fares, FaresAt, HasLeft, IsReceiver}
 use Rattle.wdt_receiver_fsm.specs.ReceiverHistory.{EndPast, RecvPast, end_of}
-use Rattle.wdt_receiver_fsm.specs.Rows.{Over, Piece, Row, Starved, Stray, Unexpected, at_answer, at_command, at_settings, is_allowed, is_mute, is_mute_at, is_reading, is_stray, piece_row, place_of, row_of}
+use Rattle.wdt_receiver_fsm.specs.Rows.{Row, Unexpected, at_answer, at_command, at_settings, is_allowed, is_mute, is_mute_at, is_reading, is_stray, piece_row, place_of, row_of}
 use Rattle.wdt_receiver_fsm.specs.Stops.{belongs, is_silent, is_stop, is_through, stops}
 use Rattle.wdt_receiver_fsm.specs.Turn.{Bytes, Given, Put, Step, begins_by, greets_by, leaves, meets, row_at, tells_failure, waits_by}
 use Rattle.wdt_receiver_fsm.proofs.Answered.{answered_done, answered_link}
 use Rattle.wdt_receiver_fsm.proofs.Entries.{every_at}
-use Rattle.wdt_receiver_fsm.proofs.HeldActs.{is_rest, judged_failure, outcome_holds}
+use Rattle.wdt_receiver_fsm.proofs.HeldActs.{is_rest, outcome_holds}
 use Rattle.wdt_receiver_fsm.proofs.Keeping.{judged_fails}
 use Rattle.wdt_receiver_fsm.proofs.Living.{live_lane}
 

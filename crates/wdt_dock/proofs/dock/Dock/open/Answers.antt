@@ -6,10 +6,12 @@ use Rattle.wdt_writer.specs.PlainWriter.{PlainWriter, opened as writer_opened}
 use Rattle.wdt_receiver_fsm.specs.Batched.{IsBatched}
 use Rattle.wdt_receiver_fsm.specs.Receiver.{IsReceiver}
 use Rattle.wdt_dock.specs.Desk.{plain_of}
-use Rattle.wdt_dock.specs.Dock.{IsDock}
+use Rattle.wdt_receiver_fsm.specs.Writes.{CanTell}
+use Rattle.wdt_dock.specs.Dock.{AreStamped, IsDock}
 use Rattle.wdt_dock.specs.DockGood.{DockGood}
 use Rattle.wdt_receiver_fsm.specs.End.{EndView, new_end}
 use Rattle.wdt_dock.proofs.Flushed.{fits_after}
+use Rattle.wdt_dock.proofs.HaveTold.{opened_tells}
 use Rattle.wdt_dock.proofs.Opened.{dock_opened, told_opened}
 use Rattle.wdt_receiver_fsm.proofs.ForCallers.{opened_answered}
 use Rattle.wdt_dock.proofs.dock.Dock.open.Goals as goal
@@ -56,3 +58,12 @@ returns-in-Ok-parts_of-clause-good g c = λ T fit.
     subst (λ (e : EndView). IfTold (λ t. DockGood T (plain_of e c.in-Ok.log c.in-Ok-parts_of.writer) t.now) s.told) (sym end_is)
     (subst (λ (w : PlainWriter). IfTold (λ t. DockGood T (plain_of (new_end c.in-Ok.log.meaning.files c.args.batch c.args.lanes) c.in-Ok.log w) t.now) s.told) (sym writer_is)
     (told_opened T c.in-Ok.log.meaning c.args.batch c.args.lanes s.told (g.met.D.Depot.sound c.open.new.depot) (fits_after T (g.D.Depot.state c.args.depot).told s.told fit (c.in-Ok.ensures.images T fit)) rests))
+
+pub returns-in-Ok-parts_of-clause-tells : goal.returns-in-Ok-parts_of-clause-tells
+returns-in-Ok-parts_of-clause-tells g c =
+    let same = ap (λ (m : Meaning). m.files) c.view.ensures.meaning in
+    let end_is = c.in-Ok-parts_of.ensures.end ∙ ap (λ (fs : List NamedFile). new_end fs c.args.batch c.args.lanes) same in
+    let view = subst (λ (fs : List NamedFile). is_view fs ≡ true) same c.view.ensures.view in
+    let stamped = subst AreStamped same c.in-Ok-parts_of.ensures.stamped in
+    subst (λ (e : EndView). CanTell (plain_of e c.in-Ok.log c.in-Ok-parts_of.writer)) (sym end_is)
+    (opened_tells c.in-Ok.log.meaning.files c.args.batch c.args.lanes c.in-Ok.log c.in-Ok-parts_of.writer view stamped)

@@ -23,7 +23,7 @@ use Rattle.wdt_receiver_fsm.specs.Stops.{is_stop, is_through, stops}
 use Rattle.wdt_receiver_fsm.specs.PlainReceiver.{state_at}
 use Rattle.wdt_sender_fsm.specs.Rules.{is_failure}
 use Rattle.wdt_receiver_fsm.proofs.ForCallers.{step_stops, turn_answered}
-use Rattle.wdt_receiver_fsm.specs.PlainReceiver.{PlainReceiver, marks_at}
+use Rattle.wdt_receiver_fsm.specs.PlainReceiver.{PlainReceiver}
 use Rattle.wdt_receiver_fsm.specs.Touches.{StaysThere}
 use Rattle.wdt_logfmt.specs.Marks.{marked_of}
 use Rattle.wdt_dock.proofs.Flushed.{continues}

@@ -29,7 +29,7 @@ use Rattle.wdt_receiver_fsm.specs.declared.acts.RecvAct.TheVariants as acts
 use Rattle.wdt_receiver_fsm.specs.Stops.{Parks}
 use Rattle.wdt_receiver_fsm.proofs.ForCallers.{park_why, parks_act}
 use Rattle.std.specs.Prelude.{◌↔◌}
-use Rattle.wdt_receiver_fsm.specs.PlainReceiver.{PlainReceiver, marks_at}
+use Rattle.wdt_receiver_fsm.specs.PlainReceiver.{PlainReceiver}
 use Rattle.wdt_receiver_fsm.specs.Touches.{StaysThere}
 use Rattle.wdt_logfmt.specs.Marks.{marked_of}
 use Rattle.wdt_dock.proofs.Flushed.{continues}
