@@ -22,9 +22,9 @@ pub record IsRight (w : PlainWorld) (l : ℕ) : Type 0 where
   -- a frame that either end has read tells of a failure, or has its row of the table
   pub receives : (frame : Frame) → (pair_at w l).recv ≡ RecvHas (Got frame) → is_abort frame ≡ false → recv_phases.is_named (recv_rows.row_of (recv.lane_at w.receiver l).is_sized (recv.state_at w.receiver l) (Got frame)) ≡ true
   pub sends : (frame : Frame) → (pair_at w l).send ≡ SendHas (inputs.Got frame) → is_abort frame ≡ false → is_named (row_of (state_at w.sender l) (inputs.Got frame)) ≡ true
-  -- a count that the sender has read is of this lane, or of one that is there, and right
+  -- a count that the sender has read is of this lane, or of others that are there, and right
   pub count : (mark : Mark) → state_at w.sender l ≡ states.ReadLocalCheckpoint → (pair_at w l).send ≡ SendHas (inputs.Got (frames.Greeting mark)) → (mark.lane.0 ≡ l) × (count_fault (past_at w.sender l).claims mark.count ≡ None)
-  pub counts : (marks : List Mark) → state_at w.sender l ≡ states.ReadReceiverCmd → (pair_at w l).send ≡ SendHas (inputs.Got (frames.ErrMarks marks)) → has_stranger (length w.sender.lanes) l marks ≡ false → marks_fault w.sender.history marks ≡ None
+  pub counts : (marks : List Mark) → state_at w.sender l ≡ states.ReadReceiverCmd → (pair_at w l).send ≡ SendHas (inputs.Got (frames.ErrMarks marks)) → (has_stranger (length w.sender.lanes) l marks ≡ false) × (marks_fault w.sender.history marks ≡ None)
   -- the receiver's last word is read only where no block waits or is being written
   pub last : (pair_at w l).send ≡ SendHas (inputs.Got frames.Done) → unfinished_blocks w.sender ≡ 0
   -- what has landed are the first blocks that the lane claimed; behind the finish they are all, and no block waits

@@ -202,7 +202,7 @@ pub fn counts_are_right()
     ensures greeting { (w : PlainWorld) (l : ℕ) (mark : Mark) → Conversation w → l < length w.pairs → state_at w.sender l ≡ states.ReadLocalCheckpoint
         → (pair_at w l).send ≡ SendHas (inputs.Got (frames.Greeting mark)) → (mark.lane.0 ≡ l) × (count_fault (past_at w.sender l).claims mark.count ≡ None) }
     ensures marks { (w : PlainWorld) (l : ℕ) (marks : List Mark) → Conversation w → l < length w.pairs → state_at w.sender l ≡ states.ReadReceiverCmd
-        → (pair_at w l).send ≡ SendHas (inputs.Got (frames.ErrMarks marks)) → has_stranger (length w.sender.lanes) l marks ≡ false → marks_fault w.sender.history marks ≡ None }
+        → (pair_at w l).send ≡ SendHas (inputs.Got (frames.ErrMarks marks)) → (has_stranger (length w.sender.lanes) l marks ≡ false) × (marks_fault w.sender.history marks ≡ None) }
 {
     histories_are_sound();
 }
