@@ -70,7 +70,7 @@ told_early s told q ds us (inr a) = (told_late q (all_told us s q told a.1), ap 
 
 -- ---- what the sender's lane holds
 
-not_says : (newest : Option Link) (hold : SendHold) (ss : Stance) → says_done newest hold ≡ true → SendWrites hold ss → (newest ≡ None) × ((s : Phase) × (ss ≡ Talks s) × ((s ≡ Sending) ⊎ (s ≡ Bye)))
+pub not_says : (newest : Option Link) (hold : SendHold) (ss : Stance) → says_done newest hold ≡ true → SendWrites hold ss → (newest ≡ None) × ((s : Phase) × (ss ≡ Talks s) × ((s ≡ Sending) ⊎ (s ≡ Bye)))
 not_says None (SendDoes (acts.Write frames.Done)) (Talks s) e w = (refl, (s, refl, done_moves s w.0 w.1))
 not_says None (SendDoes (acts.Write frames.Done)) Aborts e w = cc
 not_says None (SendDoes (acts.Write frames.Done)) Silent e w = absurd w
@@ -133,7 +133,7 @@ marks_end n (u ∷ us) s q e m = go (marks_end n us) (or_cases (marks_lane n u) 
   go more (inr x) = more f.0 q f.2 x
 
 -- no word comes where the receiver doesn't talk
-where_talking : (rs : Stance) (ds : List Message) (says : Bool) → (IsTalking rs → coming_on rs ds says ≡ false) → coming_on rs ds says ≡ false
+pub where_talking : (rs : Stance) (ds : List Message) (says : Bool) → (IsTalking rs → coming_on rs ds says ≡ false) → coming_on rs ds says ≡ false
 where_talking (Talks q) ds says f = f tt
 where_talking Aborts ds says f = refl
 where_talking Silent ds says f = refl
@@ -204,15 +204,19 @@ module _ (w : PlainWorld) (k n : ℕ) (c : Conversation w) (below : k < length w
       (false_from_ne_true (has_done (in_hand (pair_at w k).recv)) (λ d. both_ways (is_late q) y.0 (held_late (recv.lane_at w.receiver k) (recv.past_at w.receiver k).is_idle (recv.past_at w.receiver k).is_acked (pair_at w k).recv q e d)))
       (ap (λ (o : Option Link). has_done (down_sent o)) t.1 ∙ y.1)
 
-  told_quiet : IsTelling w k n → is_closed w.sender n ≡ false → nothing
-  told_quiet (inl x) opens = absurd (both_ways (is_closed w.sender n) opens x)
-  told_quiet (inr (inl x)) opens = quiet (λ q j e is a.
+  -- a lane that is about to tell of a closed one
+  pub says_quiet : marked_in n (to_say (pair_at w k).recv) ≡ true → nothing
+  says_quiet x = quiet (λ q j e is a.
       let s = says_marks n (pair_at w k).recv q x (subst (RecvWrites (pair_at w k).recv) e h.recv_writes) in
       let b : AgreeOn (send_there (pair_at w k).newest (sends_at w k)) (Talks Asked) (Some j) = subst (λ (p : Phase). AgreeOn (send_there (pair_at w k).newest (sends_at w k)) (Talks p) (Some j)) s.0 a in (
         inr s.1,
         asked_none j.down.sent (hears_down (send_there (pair_at w k).newest (sends_at w k)) Asked j.down.sent j.up.sent b),
         word_apart (pair_at w k).newest (pair_at w k).send (sends_at w k) Asked j h.send_writes b (λ s i o. asked_apart s j.down.sent j.up.sent i o),
       ))
+
+  told_quiet : IsTelling w k n → is_closed w.sender n ≡ false → nothing
+  told_quiet (inl x) opens = absurd (both_ways (is_closed w.sender n) opens x)
+  told_quiet (inr (inl x)) opens = says_quiet x
   told_quiet (inr (inr (inl x))) opens = quiet (λ q j e is a.
       let y = marked_quiet n (lane_at w.sender k) (past_at w.sender k).is_acked (pair_at w k).send (sends_at w k) q j (pair_at w k).newest refl x.0 x.1 h.send_writes a (subst (λ (o : Option Link). marked_in n (send_in_hand (pair_at w k).send ++ up_sent o) ≡ true) is x.2) in
       (inl y.0, y.1, y.2))

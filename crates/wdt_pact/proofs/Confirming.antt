@@ -1,5 +1,5 @@
 -- A confirmed lane is closed at the sender, and a finish that is ready has come, whatever happens.
-use Rattle.std.proofs.Common.{◌≡◌, ◌⊎◌, inl, inr, ℕ, ◌<◌, ◌||◌, ◌&&◌, not, Bool, true, false, List, [], ◌∷◌, ◌++◌, length, Option, Some, None, is_some, subst, sym, ap, ◌∙◌, refl, eq-eqb, append-nil, append_assoc}
+use Rattle.std.proofs.Common.{◌≡◌, ◌⊎◌, inl, inr, ℕ, ◌<◌, ◌||◌, not, Bool, true, false, List, [], ◌∷◌, ◌++◌, length, Option, Some, None, is_some, subst, sym, ap, ◌∙◌, refl, eq-eqb, append-nil, append_assoc}
 use Rattle.std.proofs.lemmas.Bool.{and_parts, both_ways, false_from_ne_true, or_cases}
 use Rattle.wdt_units.specs.declared.blocks.Block.{Block}
 use Rattle.wdt_units.specs.declared.numbers.Lane.{Lane}
@@ -8,7 +8,7 @@ use Rattle.wdt_sender_fsm.specs.declared.events.SendEvent.{SendEvent}
 use Rattle.wdt_sender_fsm.specs.declared.inputs.SendIn.{SendIn}
 use Rattle.wdt_sender_fsm.specs.Legal.{IsLegal, IsSound as IsSoundLane}
 use Rattle.wdt_sender_fsm.specs.PlainSender.{PlainSender, is_closed}
-use Rattle.wdt_sender_fsm.specs.Rules.{every, is_failure}
+use Rattle.wdt_sender_fsm.specs.Rules.{is_failure}
 use Rattle.wdt_sender_fsm.specs.SenderHistory.{past_of as sent_past}
 use Rattle.wdt_sender_fsm.specs.Touches.{Touches}
 use Rattle.wdt_sender_fsm.specs.Turn.{send_turn}
@@ -27,13 +27,12 @@ use Rattle.wdt_pact.specs.Belongs.{RecvBelongsAt}
 use Rattle.wdt_pact.specs.Conversation.{Conversation}
 use Rattle.wdt_pact.specs.Finishing.{Finishing}
 use Rattle.wdt_pact.specs.Fitting.{IsSound, lane_of}
-use Rattle.wdt_pact.specs.Pairs.{RecvHas}
 use Rattle.wdt_pact.specs.World.{PlainWorld, WorldEvent, Sends, Receives, Cut, Deny, Refuse, happens, number, pair_at, recv_turn}
 use Rattle.wdt_pact.proofs.Events.{recv_cases, send_cases}
 use Rattle.wdt_pact.proofs.Finishing.{every_at, told_closed}
 use Rattle.wdt_pact.proofs.RecvHands.{Hands, holds_input}
 use Rattle.wdt_pact.proofs.RecvRows.{ends_in}
-use Rattle.wdt_pact.proofs.RecvSeen.{Asks, Closes, Drops, Ends, NowIdle, Off, Point, Seen, Stays, Tells, WasIdle, goes_on, ready_same, turn_seen}
+use Rattle.wdt_pact.proofs.RecvSeen.{Asks, Closes, Drops, Ends, NowIdle, Point, Seen, Stays, Tells, WasIdle, goes_on, ready_same, turn_seen}
 
 -- what the sender's own crate promises of closed lanes, and of each lane's past
 abbrev pub StayClosed : Type 0

@@ -1,6 +1,6 @@
 -- A count that the sender's lane has read is right.
-use Rattle.std.proofs.Common.{◌≡◌, ℕ, ◌<◌, ◌≤◌, ◌==◌, ◌&&◌, nat_le, Bool, true, false, if◌then◌else◌, List, [], ◌∷◌, length, Option, Some, None, is_some, sym, ap, ◌∙◌, refl, arith, eq-eqb, option_map}
-use Rattle.std.proofs.lemmas.Bool.{or_parts}
+use Rattle.std.proofs.Common.{◌≡◌, ℕ, ◌<◌, ◌≤◌, ◌==◌, ◌&&◌, nat_le, Bool, true, false, if◌then◌else◌, List, [], ◌∷◌, length, Option, Some, None, is_some, subst, sym, ap, ◌∙◌, refl, arith, eq-eqb, option_map}
+use Rattle.std.proofs.lemmas.Bool.{ne_eqb, or_from, or_parts}
 use Rattle.std.proofs.lemmas.Bool.Decides.{nat_tests}
 use Rattle.std.proofs.lemmas.List.{length-map}
 use Rattle.wdt_units.specs.declared.blocks.Block.{Block}
@@ -27,12 +27,16 @@ use Rattle.wdt_pact.proofs.Lists.{landed_few}
 use Rattle.wdt_pact.proofs.Rows.{row_at}
 use Rattle.wdt_pact.proofs.SendMoves.{splits_all}
 use Rattle.wdt_pact.proofs.SendPoints.{closed_as}
+use Rattle.wdt_pact.proofs.ToldLanes.{closed_there}
 
 le_so : (a b : ℕ) → a ≤ b → nat_le a b ≡ true
 le_so a b h = grind (arith, nat_tests)
 
 le_not : (a b : ℕ) → nat_le a b ≡ false → b < a
 le_not a b h = grind (arith, nat_tests)
+
+not_le : (a b : ℕ) → b < a → nat_le a b ≡ false
+not_le a b h = grind (arith, nat_tests)
 
 module _ (sounds : (n : ℕ) (planned : List Block) (h : List SendEvent) (l : ℕ) → IsLegal n planned h → IsSound (past_of h l)) (w : PlainWorld) (c : Conversation w) where
   -- as many blocks as have landed on a lane may be told of it
@@ -74,7 +78,18 @@ module _ (sounds : (n : ℕ) (planned : List Block) (h : List SendEvent) (l : �
       let below = le_not (length w.pairs) m.lane.0 (or_parts (nat_le (length w.pairs) m.lane.0) (m.lane.0 == l) parts.0).0 in
       ap (λ (o : Option PeerKind). or_else o (marks_fault w.sender.history ms)) (right_count m.lane.0 m.count below (closed_as w m.lane.0 m.count told.0.0).1) ∙ each_right l ms told.1 parts.1
 
+  -- they are of lanes that are there, and of others
+  no_strangers : (l : ℕ) (ms : List Mark) → Each (Marks (common w.receiver) l) ms → has_stranger (length w.pairs) l ms ≡ false
+  no_strangers l [] told = refl
+  no_strangers l (m ∷ ms) told =
+      or_from (is_stranger (length w.pairs) l m) (has_stranger (length w.pairs) l ms)
+      (or_from (nat_le (length w.pairs) m.lane.0) (m.lane.0 == l) (not_le (length w.pairs) m.lane.0 (subst (λ (n : ℕ). m.lane.0 < n) c.recv_lanes there)) (ne_eqb m.lane.0 l told.0.1)) (no_strangers l ms told.1) where
+        there : m.lane.0 < length w.receiver.lanes
+        there = closed_there w.receiver m.lane.0 c.receiver (closed_as w m.lane.0 m.count told.0.0).0
+
   -- and those of closed lanes
-  pub marks_right : (l : ℕ) (ms : List Mark) → l < length w.pairs → state_at w.sender l ≡ states.ReadReceiverCmd → (pair_at w l).send ≡ SendHas (inputs.Got (frames.ErrMarks ms)) → has_stranger (length w.sender.lanes) l ms ≡ false → marks_fault w.sender.history ms ≡ None
-  marks_right l ms within here holds none =
-      each_right l ms (row_at w l states.ReadReceiverCmd (inputs.Got (frames.ErrMarks ms)) c within here holds).upward.0 (ap (λ (n : ℕ). has_stranger n l ms) (sym c.send_lanes) ∙ none)
+  pub marks_right : (l : ℕ) (ms : List Mark) → l < length w.pairs → state_at w.sender l ≡ states.ReadReceiverCmd → (pair_at w l).send ≡ SendHas (inputs.Got (frames.ErrMarks ms)) → (has_stranger (length w.sender.lanes) l ms ≡ false) × (marks_fault w.sender.history ms ≡ None)
+  marks_right l ms within here holds =
+      let told = (row_at w l states.ReadReceiverCmd (inputs.Got (frames.ErrMarks ms)) c within here holds).upward.0 in
+      let none = no_strangers l ms told in
+      (ap (λ (n : ℕ). has_stranger n l ms) c.send_lanes ∙ none, each_right l ms told none)

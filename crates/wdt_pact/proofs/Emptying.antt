@@ -1,18 +1,17 @@
 -- Behind the finish no block waits, and the sender has a plan, whatever happens.
-use Rattle.std.proofs.Common.{◌≡◌, ◌⊎◌, inl, inr, ℕ, ◌<◌, Bool, true, false, List, [], ◌∷◌, ◌++◌, length, Option, is_some, subst, sym, ap, ◌∙◌, refl}
+use Rattle.std.proofs.Common.{◌≡◌, ℕ, ◌<◌, true, false, [], ◌∷◌, length, is_some, subst, sym, ap, ◌∙◌, refl}
 use Rattle.wdt_codec.specs.declared.frames.Frame.TheVariants as frames
 use Rattle.wdt_sender_fsm.specs.declared.inputs.SendIn.{SendIn}
 use Rattle.wdt_sender_fsm.specs.PlainSender.{lane_at, waiting_blocks}
 use Rattle.wdt_sender_fsm.specs.Rules.{is_failure}
 use Rattle.wdt_sender_fsm.specs.Turn.{send_turn}
-use Rattle.wdt_receiver_fsm.specs.declared.events.RecvEvent.{RecvEvent}
 use Rattle.wdt_receiver_fsm.specs.declared.events.RecvEvent.TheVariants as events
 use Rattle.wdt_receiver_fsm.specs.declared.inputs.RecvIn.TheVariants as inputs
 use Rattle.wdt_receiver_fsm.specs.declared.states.RecvState.TheVariants as states
 use Rattle.wdt_receiver_fsm.specs.Plan.{EndsIn}
 use Rattle.wdt_receiver_fsm.specs.PlainReceiver.{PlainReceiver, can_finish, has_finish}
 use Rattle.wdt_receiver_fsm.specs.Ready.{is_ready}
-use Rattle.wdt_receiver_fsm.specs.ReceiverHistory.{EndPast, end_of, end_of-append}
+use Rattle.wdt_receiver_fsm.specs.ReceiverHistory.{EndPast, end_of-append}
 use Rattle.wdt_receiver_fsm.specs.Sets.{set_of}
 use Rattle.wdt_receiver_fsm.specs.Turn.{Put, Step, turn_plan}
 use Rattle.wdt_pact.specs.Belongs.{RecvBelongsAt, SendBelongs}

@@ -178,7 +178,7 @@ module _ (sounds : (n : ℕ) (planned : List Block) (h : List SendEvent) (l : �
   asked : receives_at w l ≡ Talks Asked
   asked = stands_asked w l here sized word
 
-  comes : is_coming w l ≡ true
+  pub comes : is_coming w l ≡ true
   comes = rw (asked, word) refl
 
   -- the receiver with the lane idle is ready

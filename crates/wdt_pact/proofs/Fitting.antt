@@ -274,4 +274,3 @@ send_fits writes lawful touches w l lost c reads within f = go (pair_at w l).sen
         down = pair_fits w.pairs l (send_takes (pair_at w l) i (past_at (send_turn w.sender (number l) i).1 l).is_greeted (send_turn w.sender (number l) i).0) within
             (takes_fits FitsMessage any_piece (pair_at w l) i (past_at (send_turn w.sender (number l) i).1 l).is_greeted (send_turn w.sender (number l) i).0 (act_fits w.sender.manifest (send_turn w.sender (number l) i).0 f.stamps (writes w.sender (number l) i c.sender f.sender (subst (λ (n : ℕ). l < n) (sym c.send_lanes) within) (reads i is))) d) f.down;
       }
-

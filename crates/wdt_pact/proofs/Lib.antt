@@ -70,3 +70,6 @@ mod TellingSteps
 mod TellingAll
 mod Planning
 mod Emptying
+mod Coming
+mod Witnessing
+mod Worlds

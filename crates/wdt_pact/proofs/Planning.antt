@@ -1,12 +1,9 @@
 -- What is sent in all is told, and was read, only where the sender has a plan, whatever happens.
-use Rattle.std.proofs.Common.{◌≡◌, ◌≢◌, ◌⊎◌, inl, inr, ℕ, zero, suc, ◌<◌, Bool, true, false, List, [], ◌∷◌, ◌++◌, length, Option, Some, None, is_some, subst, sym, ap, ◌∙◌, refl}
-use Rattle.std.proofs.lemmas.Bool.{both_ways}
+use Rattle.std.proofs.Common.{◌≡◌, ◌⊎◌, inl, inr, ℕ, zero, suc, ◌<◌, Bool, true, false, List, [], ◌∷◌, ◌++◌, length, Option, Some, None, is_some, subst, sym, ap, ◌∙◌, refl}
 use Rattle.std.proofs.lemmas.List.{length-set}
 use Rattle.wdt_units.specs.declared.blocks.Block.{Block}
-use Rattle.wdt_codec.specs.declared.frames.Frame.{Frame}
 use Rattle.wdt_codec.specs.declared.frames.Frame.TheVariants as frames
 use Rattle.wdt_codec.specs.declared.frames.Settings.{Settings}
-use Rattle.wdt_sender_fsm.specs.declared.acts.SendAct.{SendAct}
 use Rattle.wdt_sender_fsm.specs.declared.acts.SendAct.TheVariants as acts
 use Rattle.wdt_sender_fsm.specs.declared.answers.EndAnswer.{EndAnswer}
 use Rattle.wdt_sender_fsm.specs.declared.events.SendEvent.TheVariants as sent_events
@@ -14,7 +11,7 @@ use Rattle.wdt_sender_fsm.specs.declared.inputs.SendIn.{SendIn}
 use Rattle.wdt_sender_fsm.specs.declared.states.SendState.TheVariants as states
 use Rattle.wdt_sender_fsm.specs.Outcomes as sent
 use Rattle.wdt_sender_fsm.specs.Phases.{Message, Framed, Piece}
-use Rattle.wdt_sender_fsm.specs.PlainSender.{PlainSender, is_closed, lane_at, noted, past_at}
+use Rattle.wdt_sender_fsm.specs.PlainSender.{PlainSender, lane_at, noted, past_at}
 use Rattle.wdt_sender_fsm.specs.Reasons as reasons
 use Rattle.wdt_sender_fsm.specs.Rules.{is_failure}
 use Rattle.wdt_sender_fsm.specs.Sender.{Fares}
@@ -24,7 +21,6 @@ use Rattle.wdt_sender_fsm.specs.Turn.{Step as SendStep, greeted_by, send_turn}
 use Rattle.wdt_receiver_fsm.specs.declared.events.RecvEvent.{RecvEvent}
 use Rattle.wdt_receiver_fsm.specs.declared.events.RecvEvent.TheVariants as events
 use Rattle.wdt_receiver_fsm.specs.declared.inputs.RecvIn.TheVariants as inputs
-use Rattle.wdt_receiver_fsm.specs.declared.states.RecvState.TheVariants as recv_states
 use Rattle.wdt_receiver_fsm.specs.Outcomes as outcomes
 use Rattle.wdt_receiver_fsm.specs.Outcomes.{ComesOf, Outcome, Rested, Left, Warned, Failed, GivenUp, Listened, Linked, Greeted, Listed, ReadOn, Sized, Begun, Taken, Concluded, Told, Waited, Ended, Acknowledged, came_to, landed_by}
 use Rattle.wdt_receiver_fsm.specs.Outcomes.{ByDone, ByWait, ByWaking, OfMemory, OfSender, OfPeer, OfShort, OfMake, OfWrite, OfLog, OfFinish, AtFirst, ByNoLink, ByLoss, ByGreeting, ByChunks, ByMarks, ByLanding, ByLogging, WasFinished, IsFinished, OfKnown, OfNew}
@@ -35,14 +31,14 @@ use Rattle.wdt_receiver_fsm.specs.Sets.{set_of}
 use Rattle.wdt_receiver_fsm.specs.Turn.{Given, Put, Step, begins_by, given_up, greets_by, met_by, turn_plan}
 use Rattle.wdt_receiver_fsm.proofs.ForCallers.{end_comes}
 use Rattle.wdt_pact.specs.Belongs.{RecvBelongsAt, SendBelongs}
-use Rattle.wdt_pact.specs.Conversation.{Conversation, common}
+use Rattle.wdt_pact.specs.Conversation.{Conversation}
 use Rattle.wdt_pact.specs.Each.{Each}
 use Rattle.wdt_pact.specs.Finishing.{ComesOfPlan, Finishing}
 use Rattle.wdt_pact.specs.Fitting.{DownBy, DownOf, GoesDown, IsSound, SaysOf, lane_of}
 use Rattle.wdt_pact.specs.Links.{Link}
 use Rattle.wdt_pact.specs.Lists.{in_hand}
-use Rattle.wdt_pact.specs.Pairs.{Pair, RecvHold, RecvHas, SendHold, SendDoes, SendHas, cuts_by, recv_does, recv_gets, send_does, send_takes, top_by}
-use Rattle.wdt_pact.specs.World.{PlainWorld, WorldEvent, Sends, Receives, Cut, Deny, Refuse, happens, number, pair_at, recv_turn, recv_turned, send_turned, with_pair}
+use Rattle.wdt_pact.specs.Pairs.{Pair, RecvHold, SendHold, SendDoes, SendHas, cuts_by, recv_does, recv_gets, send_does, send_takes, top_by}
+use Rattle.wdt_pact.specs.World.{PlainWorld, WorldEvent, Sends, Receives, Cut, Deny, Refuse, happens, number, pair_at, recv_turn, send_turned, with_pair}
 use Rattle.wdt_pact.proofs.Confirming.{SenderTouches}
 use Rattle.wdt_pact.proofs.Events.{recv_cases, send_cases}
 use Rattle.wdt_pact.proofs.Fitting.{cuts_fit, recv_does_down, send_does_down, takes_fits, tops}

@@ -1,12 +1,12 @@
 -- A receiver's lane that talks behind its step talked before it.
-use Rattle.std.proofs.Common.{◌≡◌, ◌⊎◌, inl, inr, ℕ, ◌<◌, Bool, true, false, List, [], ◌∷◌, ◌++◌, length, slice_set, Option, Some, None, subst, sym, ap, ◌∙◌, refl}
+use Rattle.std.proofs.Common.{◌≡◌, ℕ, ◌<◌, Bool, true, false, List, [], ◌∷◌, ◌++◌, length, slice_set, subst, sym, ap, ◌∙◌, refl}
 use Rattle.std.proofs.lemmas.List.{length-set}
 use Rattle.wdt_units.specs.declared.blocks.Block.{Block}
 use Rattle.wdt_codec.specs.declared.frames.Frame.{Frame}
 use Rattle.wdt_codec.specs.declared.frames.Frame.TheVariants as frames
 use Rattle.wdt_sender_fsm.specs.declared.answers.EndAnswer.{EndAnswer}
 use Rattle.wdt_sender_fsm.specs.declared.answers.EndAnswer.TheVariants as answers
-use Rattle.wdt_sender_fsm.specs.Phases.{Phase, over_if}
+use Rattle.wdt_sender_fsm.specs.Phases.{over_if}
 use Rattle.wdt_receiver_fsm.specs.declared.acts.RecvAct.{RecvAct}
 use Rattle.wdt_receiver_fsm.specs.declared.acts.RecvAct.TheVariants as acts
 use Rattle.wdt_receiver_fsm.specs.declared.events.RecvEvent.{RecvEvent}
@@ -16,7 +16,6 @@ use Rattle.wdt_receiver_fsm.specs.declared.inputs.RecvIn.TheVariants as inputs
 use Rattle.wdt_receiver_fsm.specs.declared.states.RecvLane.{RecvLane}
 use Rattle.wdt_receiver_fsm.specs.declared.states.RecvState.{RecvState}
 use Rattle.wdt_receiver_fsm.specs.declared.states.RecvState.TheVariants as states
-use Rattle.wdt_receiver_fsm.specs.Logging.{all_logged}
 use Rattle.wdt_receiver_fsm.specs.Outcomes as outcomes
 use Rattle.wdt_receiver_fsm.specs.Outcomes.{ComesOf, Outcome, Rested, Left, Warned, Failed, GivenUp, Listened, Linked, Greeted, Listed, ReadOn, Sized, Begun, Taken, Concluded, Told, Waited, Ended, Acknowledged, came_to}
 use Rattle.wdt_receiver_fsm.specs.Outcomes.{ByDone, ByWait, ByWaking, OfMemory, OfSender, OfPeer, OfShort, OfMake, OfWrite, OfLog, OfFinish, AtFirst, ByNoLink, ByLoss, ByGreeting, ByChunks, ByMarks, ByLanding, ByLogging, WasFinished, IsFinished, OfKnown, OfNew}
@@ -30,7 +29,7 @@ use Rattle.wdt_pact.specs.Belongs.{RecvBelongsAt}
 use Rattle.wdt_pact.specs.Conversation.{Conversation}
 use Rattle.wdt_pact.specs.Finishing.{receives_at}
 use Rattle.wdt_pact.specs.Pairs.{RecvHold, RecvDoes, RecvHas}
-use Rattle.wdt_pact.specs.Stances.{IsTalking, Stance, Talks, recv_stance, stand}
+use Rattle.wdt_pact.specs.Stances.{IsTalking, Stance, recv_stance, stand}
 use Rattle.wdt_pact.specs.World.{PlainWorld, number, pair_at}
 use Rattle.wdt_pact.proofs.Below.{get_set}
 use Rattle.wdt_pact.proofs.RecvFailing.{voice_talks}

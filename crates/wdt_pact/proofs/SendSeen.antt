@@ -1,6 +1,6 @@
 -- What the lanes together see of a step of the sender's lane: whether it talks on, which lanes it knows as closed, which
 -- blocks wait, and whether it is about to say that nothing more is to come.
-use Rattle.std.proofs.Common.{◌≡◌, ◌⊎◌, inl, inr, ℕ, zero, suc, ◌+◌, ◌<◌, ◌==◌, ◌||◌, Bool, true, false, if◌then◌else◌, List, [], ◌∷◌, ◌++◌, length, Option, Some, None, is_some, subst, sym, ap, ◌∙◌, refl, arith, append-nil, eq-eqb}
+use Rattle.std.proofs.Common.{◌≡◌, ◌⊎◌, inl, inr, ℕ, ◌+◌, ◌<◌, ◌==◌, ◌||◌, Bool, true, false, if◌then◌else◌, List, [], ◌∷◌, ◌++◌, length, Option, Some, None, is_some, subst, sym, ap, ◌∙◌, refl, arith, append-nil, eq-eqb}
 use Rattle.std.proofs.lemmas.Bool.{both_ways, cases_eq, ne_eqb, or_cases}
 use Rattle.std.proofs.lemmas.List.{length-map, length-set, take_all}
 use Rattle.std.specs.List.{list_any}
@@ -25,9 +25,9 @@ use Rattle.wdt_sender_fsm.specs.declared.states.SendLane.{SendLane}
 use Rattle.wdt_sender_fsm.specs.declared.states.SendState.{SendState}
 use Rattle.wdt_sender_fsm.specs.declared.states.SendState.TheVariants as states
 use Rattle.wdt_sender_fsm.specs.Outcomes.{Outcome, Rested, Waited, Left, Warned, Failed, GivenUp, Redialed, Introduced, Presented, Greeted, Listed, Planned, Claimed, Emptied, Concluded, Finished, Acknowledged, came_to}
-use Rattle.wdt_sender_fsm.specs.Phases.{Phase, Listing, Told, Sending as SendingPhase, over_if, told}
+use Rattle.wdt_sender_fsm.specs.Phases.{Phase, Listing, Told, Sending as SendingPhase, over_if}
 use Rattle.wdt_sender_fsm.specs.Places.{least_of, queued}
-use Rattle.wdt_sender_fsm.specs.PlainSender.{PlainSender, blocks_of, failed, goes, header_of, is_closed, is_ended, lane_at, least_queued, listed_blocks, noted, past_at, size_of_tree, state_at, unfinished_blocks, waiting_blocks, with_lane}
+use Rattle.wdt_sender_fsm.specs.PlainSender.{PlainSender, blocks_of, failed, goes, header_of, is_closed, is_ended, lane_at, least_queued, listed_blocks, noted, past_at, size_of_tree, state_at, waiting_blocks, with_lane}
 use Rattle.wdt_sender_fsm.specs.Reasons as reasons
 use Rattle.wdt_sender_fsm.specs.Reasons.{Comes, ComesOf, WasOver, WasStray, WasSettled}
 use Rattle.wdt_sender_fsm.specs.Reasons.{OfMemory, OfReceiver, OfSource, OfPlan, OfPeer, AtFirst, ByNoLink, ByLoss, BySize, ByBlock, ByMarks, Behind, AtOnce}

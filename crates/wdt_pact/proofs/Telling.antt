@@ -1,25 +1,20 @@
 -- A lane that told of a closed one: what an act of either end, or an input that the sender's lane hands in, leaves of it.
 use Rattle.std.proofs.Common.{◌≡◌, ◌⊎◌, inl, inr, ℕ, zero, suc, ◌||◌, ◌&&◌, not, nat_le, Bool, true, false, List, [], ◌∷◌, ◌++◌, take, Option, Some, None, option_map, subst, sym, ap, ◌∙◌, refl}
-use Rattle.std.proofs.lemmas.Bool.{both_ways, or_from}
+use Rattle.std.proofs.lemmas.Bool.{or_from}
 use Rattle.wdt_units.specs.declared.blocks.Header.{Header}
 use Rattle.wdt_codec.specs.declared.frames.Frame.{Frame}
-use Rattle.wdt_codec.specs.declared.frames.Frame.TheVariants as frames
 use Rattle.wdt_sender_fsm.specs.declared.acts.SendAct.{SendAct}
 use Rattle.wdt_sender_fsm.specs.declared.acts.SendAct.TheVariants as acts
 use Rattle.wdt_sender_fsm.specs.declared.inputs.SendIn.{SendIn}
 use Rattle.wdt_sender_fsm.specs.declared.inputs.SendIn.TheVariants as inputs
 use Rattle.wdt_sender_fsm.specs.declared.states.SendLane.{SendLane}
-use Rattle.wdt_sender_fsm.specs.Phases.{Message, Framed, Piece, pieces_in, pieces_of, written_by}
-use Rattle.wdt_receiver_fsm.specs.declared.acts.RecvAct.{RecvAct}
-use Rattle.wdt_receiver_fsm.specs.declared.acts.RecvAct.TheVariants as recv_acts
-use Rattle.wdt_receiver_fsm.specs.declared.inputs.RecvIn.TheVariants as recv_inputs
-use Rattle.wdt_pact.specs.Each.{Each}
-use Rattle.wdt_pact.specs.Links.{Link, Way, front, is_cut, new_link, note_greeted, size_down, size_up, with_sent}
-use Rattle.wdt_pact.specs.Pairs.{Pair, SendHold, SendDoes, SendHas, RecvHold, RecvDoes, RecvHas, RecvTook, noted_below, noted_newest, noted_taken, recv_nothing, recv_reads, recv_reads_by, recv_stops, recv_takes, recv_takes_by, recv_writes, recv_wrote_or_lost, send_dials, send_left, send_loses, send_reads, send_reads_by, send_sends, send_takes, send_writes, top_by, waits, wrote_or_lost}
+use Rattle.wdt_sender_fsm.specs.Phases.{Message, pieces_in, pieces_of, written_by}
+use Rattle.wdt_pact.specs.Links.{Link, Way, front, is_cut, new_link, note_greeted, size_up, with_sent}
+use Rattle.wdt_pact.specs.Pairs.{Pair, SendHold, SendDoes, SendHas, RecvHold, noted_below, noted_newest, noted_taken, recv_stops, send_dials, send_loses, send_reads, send_reads_by, send_sends, send_takes, send_writes, top_by, waits, wrote_or_lost}
 use Rattle.wdt_pact.specs.Stances.{IsTalking, Stance, Talks, Aborts, Silent, send_stance}
 use Rattle.wdt_pact.specs.Lists.{has_done, in_hand}
 use Rattle.wdt_pact.specs.Conversation.{send_in_hand, to_say, up_sent}
-use Rattle.wdt_pact.specs.Finishing.{down_sent, marked_in, marks_lane}
+use Rattle.wdt_pact.specs.Finishing.{down_sent, marked_in}
 use Rattle.wdt_pact.proofs.Below.{if_has}
 use Rattle.wdt_pact.proofs.Finishing.{marked-append}
 use Rattle.wdt_pact.proofs.Lists.{IsPiece, Each-take, are_pieces, has_done-append, no_done}

@@ -1,12 +1,11 @@
 -- Whatever happens to a world, each lane that told of a closed one stands as it must.
-use Rattle.std.proofs.Common.{◌≡◌, ◌≢◌, ◌⊎◌, inl, inr, ℕ, suc, ◌<◌, ◌==◌, ◌||◌, Bool, true, false, List, [], ◌∷◌, ◌++◌, length, map, slice_get, slice_set, Option, Some, None, subst, sym, ap, ◌∙◌, refl, eq-eqb}
+use Rattle.std.proofs.Common.{◌≡◌, ◌≢◌, ◌⊎◌, inl, inr, ℕ, suc, ◌<◌, ◌==◌, ◌||◌, Bool, true, false, List, [], ◌∷◌, ◌++◌, length, map, Option, Some, None, subst, sym, ap, ◌∙◌, refl, eq-eqb}
 use Rattle.std.proofs.lemmas.Bool.{both_ways}
 use Rattle.std.proofs.lemmas.List.{length-set}
 use Rattle.std.specs.List.{list_any}
 use Rattle.wdt_units.specs.LaneSets.{has_lane}
 use Rattle.wdt_units.specs.declared.numbers.Lane.{Lane}
 use Rattle.wdt_codec.specs.declared.frames.Mark.{Mark}
-use Rattle.wdt_sender_fsm.specs.declared.acts.SendAct.{SendAct}
 use Rattle.wdt_sender_fsm.specs.declared.events.SendEvent.{SendEvent}
 use Rattle.wdt_sender_fsm.specs.declared.inputs.SendIn.{SendIn}
 use Rattle.wdt_sender_fsm.specs.declared.states.SendLane.{SendLane}
@@ -14,7 +13,7 @@ use Rattle.wdt_sender_fsm.specs.Phases.{Message}
 use Rattle.wdt_sender_fsm.specs.PlainSender.{PlainSender, is_closed, lane_at, past_at}
 use Rattle.wdt_sender_fsm.specs.Reasons.{Comes}
 use Rattle.wdt_sender_fsm.specs.SenderHistory.{LanePast}
-use Rattle.wdt_sender_fsm.specs.Touches.{AsItWas, Beside, NowClosed, NowFinished, Touches}
+use Rattle.wdt_sender_fsm.specs.Touches.{AsItWas, Beside, NowClosed, NowFinished}
 use Rattle.wdt_sender_fsm.specs.Turn.{Step as SendStep, send_turn}
 use Rattle.wdt_receiver_fsm.specs.declared.acts.RecvAct.{RecvAct}
 use Rattle.wdt_receiver_fsm.specs.declared.events.RecvEvent.{RecvEvent}
@@ -26,7 +25,7 @@ use Rattle.wdt_receiver_fsm.specs.PlainReceiver.{PlainReceiver, mark_of}
 use Rattle.wdt_receiver_fsm.specs.ReceiverHistory.{RecvPast, past_of, past_of-append}
 use Rattle.wdt_receiver_fsm.specs.Sets.{has, lanes_of, numbers, set_of}
 use Rattle.wdt_receiver_fsm.specs.Touches.{Touches as RecvTouches}
-use Rattle.wdt_receiver_fsm.specs.Turn.{Put, Step, tells_by, turn_plan}
+use Rattle.wdt_receiver_fsm.specs.Turn.{Put, Step, turn_plan}
 use Rattle.wdt_receiver_fsm.specs.Receiver.{terms_of}
 use Rattle.wdt_receiver_fsm.proofs.ForCallers.{legal_sound, turn_touches}
 use Rattle.wdt_pact.specs.Belongs.{SendBelongs}
@@ -35,9 +34,9 @@ use Rattle.wdt_pact.specs.Fitting.{IsSound, lane_of}
 use Rattle.wdt_pact.specs.Links.{Link, cut_link}
 use Rattle.wdt_pact.specs.Lists.{has_done, in_hand}
 use Rattle.wdt_pact.specs.Conversation.{send_in_hand, to_say}
-use Rattle.wdt_pact.specs.Pairs.{Pair, RecvHold, RecvDoes, SendHold, SendDoes, SendHas, cuts_by, recv_does, recv_gets, send_does, send_takes, top_by}
+use Rattle.wdt_pact.specs.Pairs.{Pair, RecvHold, RecvDoes, SendHold, SendHas, cuts_by, recv_does, recv_gets, send_does, send_takes, top_by}
 use Rattle.wdt_pact.specs.Stances.{IsTalking, Stance, recv_stance, send_stance}
-use Rattle.wdt_pact.specs.World.{PlainWorld, WorldEvent, Sends, Receives, Cut, Deny, Refuse, happens, number, pair_at, pair_or, recv_turn, recv_turned, send_turned, with_pair}
+use Rattle.wdt_pact.specs.World.{PlainWorld, WorldEvent, Sends, Receives, Cut, Deny, Refuse, happens, number, pair_at, recv_turn, recv_turned, send_turned, with_pair}
 use Rattle.wdt_pact.proofs.Busy.{marked_none}
 use Rattle.wdt_pact.proofs.Confirming.{SenderTouches, StayClosed, closed_stays, point_telling}
 use Rattle.wdt_pact.proofs.Events.{recv_cases, send_cases}
@@ -51,7 +50,7 @@ use Rattle.wdt_pact.proofs.RecvRows.{ends_in}
 use Rattle.wdt_pact.proofs.RecvSeen as recv_seen
 use Rattle.wdt_pact.proofs.RecvSeen.{Asks, Closes, Drops, Ends, Seen, Stays, Tells}
 use Rattle.wdt_pact.proofs.RecvSteps.{mark_tells}
-use Rattle.wdt_pact.proofs.RecvTalks.{turn_spoke, stands_behind as receives_behind}
+use Rattle.wdt_pact.proofs.RecvTalks.{turn_spoke}
 use Rattle.wdt_pact.proofs.SendSeen as send_seen
 use Rattle.wdt_pact.proofs.SendSeen.{Empties, Frees, Hushes, Talks-on, stands_behind}
 use Rattle.wdt_pact.proofs.Steps.{does_recv, does_send}
@@ -95,7 +94,7 @@ cut_tells known q ss sh rh None between None denies refusals d u t = t
 cut_tells known q ss sh rh (Some k) between None denies refusals d u t = t
 
 -- the lanes of which a frame tells
-marks_has : (h : List RecvEvent) (q : ℕ) (ks : List ℕ) → list_any (λ (m : Mark). m.lane.0 == q) (map (mark_of h) ks) ≡ has ks q
+pub marks_has : (h : List RecvEvent) (q : ℕ) (ks : List ℕ) → list_any (λ (m : Mark). m.lane.0 == q) (map (mark_of h) ks) ≡ has ks q
 marks_has h q [] = refl
 marks_has h q (k ∷ ks) = ap (λ (i : ℕ). (i == q) || list_any (λ (m : Mark). m.lane.0 == q) (map (mark_of h) ks)) (mark_tells h k (λ b. record { path = []; size = 0; stamp = 0; offset = b.offset; length = b.length })).0 ∙ ap (λ (b : Bool). (k == q) || b) (marks_has h q ks)
 
@@ -103,7 +102,7 @@ cuts_send : (p : Pair) (d u : ℕ) (o : Option Link) → (cuts_by p d u o).send 
 cuts_send p d u None = refl
 cuts_send p d u (Some k) = refl
 
-cuts_recv : (p : Pair) (d u : ℕ) (o : Option Link) → (cuts_by p d u o).recv ≡ p.recv
+pub cuts_recv : (p : Pair) (d u : ℕ) (o : Option Link) → (cuts_by p d u o).recv ≡ p.recv
 cuts_recv p d u None = refl
 cuts_recv p d u (Some k) = refl
 

@@ -1,24 +1,18 @@
 -- Whatever happens, of a closed lane that a lane with a phase tells of, the sender knows or will know, or it is past asking.
-use Rattle.std.proofs.Common.{◌≡◌, ◌≢◌, ◌⊎◌, inl, inr, ℕ, ◌<◌, ◌==◌, ◌||◌, ◌&&◌, not, Bool, true, false, List, [], ◌∷◌, ◌++◌, length, map, slice_get, slice_set, Option, Some, None, subst, sym, ap, ◌∙◌, refl, eq-eqb}
+use Rattle.std.proofs.Common.{◌≡◌, inl, inr, ℕ, ◌<◌, ◌||◌, ◌&&◌, not, Bool, true, false, List, [], ◌∷◌, ◌++◌, length, Option, Some, None, subst, sym, ap, ◌∙◌, refl}
 use Rattle.std.proofs.lemmas.Bool.{both_ways}
-use Rattle.std.proofs.lemmas.List.{length-set}
-use Rattle.wdt_units.specs.LaneSets.{has_lane}
 use Rattle.wdt_codec.specs.declared.frames.Frame.{Frame}
 use Rattle.wdt_codec.specs.declared.frames.Frame.TheVariants as frames
 use Rattle.wdt_sender_fsm.specs.declared.acts.SendAct.{SendAct}
 use Rattle.wdt_sender_fsm.specs.declared.acts.SendAct.TheVariants as acts
-use Rattle.wdt_sender_fsm.specs.declared.inputs.SendIn.{SendIn}
 use Rattle.wdt_sender_fsm.specs.declared.inputs.SendIn.TheVariants as inputs
 use Rattle.wdt_sender_fsm.specs.declared.states.SendLane.{SendLane}
 use Rattle.wdt_sender_fsm.specs.declared.states.SendState.{SendState}
 use Rattle.wdt_sender_fsm.specs.declared.states.SendState.TheVariants as states
 use Rattle.wdt_sender_fsm.specs.Phases.{Framed, Message, Phase, Asked, Sending as SendingPhase, down, is_abort, up, with_left}
 use Rattle.wdt_sender_fsm.specs.PlainSender.{is_closed, lane_at, past_at, state_at}
-use Rattle.wdt_sender_fsm.specs.Talk.{moved}
 use Rattle.wdt_receiver_fsm.specs.declared.acts.RecvAct.{RecvAct}
 use Rattle.wdt_receiver_fsm.specs.declared.acts.RecvAct.TheVariants as recv_acts
-use Rattle.wdt_receiver_fsm.specs.declared.inputs.RecvIn.TheVariants as recv_inputs
-use Rattle.wdt_receiver_fsm.specs.declared.states.RecvLane.{RecvLane}
 use Rattle.wdt_receiver_fsm.specs.declared.states.RecvState.{RecvState}
 use Rattle.wdt_receiver_fsm.specs.declared.states.RecvState.TheVariants as recv_states
 use Rattle.wdt_receiver_fsm.specs.PlainReceiver as recv
@@ -26,15 +20,15 @@ use Rattle.wdt_receiver_fsm.specs.Receiver.{terms_of}
 use Rattle.wdt_receiver_fsm.specs.Sets.{has}
 use Rattle.wdt_receiver_fsm.proofs.ForCallers.{legal_sound}
 use Rattle.wdt_pact.specs.Belongs.{RecvBelongs, SendBelongs, SendFrameIn}
-use Rattle.wdt_pact.specs.Conversation.{Conversation, send_in_hand, up_sent}
+use Rattle.wdt_pact.specs.Conversation.{send_in_hand, up_sent}
 use Rattle.wdt_pact.specs.Finishing.{Finishing, IsTelling, down_sent, marked_in, marks_lane, receives_at, sends_at, telling}
 use Rattle.wdt_pact.specs.Fitting.{IsSound}
 use Rattle.wdt_pact.specs.Links.{Link, is_cut}
-use Rattle.wdt_pact.specs.Lists.{has_done, in_hand}
+use Rattle.wdt_pact.specs.Lists.{has_done}
 use Rattle.wdt_pact.specs.Pairs.{Pair, RecvHold, RecvDoes, RecvHas, SendHold, SendDoes, SendHas, recv_does, recv_stops, recv_writes, recv_wrote_or_lost, send_does, send_left, wrote_or_lost}
 use Rattle.wdt_pact.specs.Progress.{Holds, Listens, RecvReads, SendReads, SendWrites, recv_listens, send_listens}
-use Rattle.wdt_pact.specs.Stances.{AgreeOn, is_abort_down, is_any, is_calm, IsTalking, OnLink, Stance, Talks, Aborts, Silent, recv_stance, send_stance, send_there, stand}
-use Rattle.wdt_pact.specs.World.{PlainWorld, number, pair_at, with_pair}
+use Rattle.wdt_pact.specs.Stances.{AgreeOn, is_abort_down, is_any, is_calm, IsTalking, OnLink, Stance, Talks, Aborts, Silent, recv_stance, send_stance, send_there}
+use Rattle.wdt_pact.specs.World.{PlainWorld, pair_at}
 use Rattle.wdt_pact.proofs.Below.{one_talker}
 use Rattle.wdt_pact.proofs.Busy.{asked_none, marked_none, marks_asked}
 use Rattle.wdt_pact.proofs.Finishing.{hears_down}
@@ -42,8 +36,7 @@ use Rattle.wdt_pact.proofs.Links.{nothing_comes}
 use Rattle.wdt_pact.proofs.Moving.{lane_holds}
 use Rattle.wdt_pact.proofs.RecvRows.{recv_fares}
 use Rattle.wdt_pact.proofs.RecvWriting.{talks_in}
-use Rattle.wdt_pact.proofs.Steps.{does_recv}
-use Rattle.wdt_pact.proofs.Telling.{Grants, TellsOn, dials_tell, reads_tell as send_reads_tell, sends_tell, whole_done, writes_tell as send_writes_tell}
+use Rattle.wdt_pact.proofs.Telling.{Grants, TellsOn, dials_tell, reads_tell as send_reads_tell, sends_tell, writes_tell as send_writes_tell}
 use Rattle.wdt_pact.proofs.TellingUp.{reads_tell as recv_reads_tell, takes_tell, writes_tell as recv_writes_tell}
 
 -- ---- stances that talk
@@ -83,6 +76,49 @@ wrote_quiet ask acked false t = t
 lost_quiet : (ask acked b : Bool) → IsTalking (send_stance record { state = states.SendAbort; ask = ask } acked (SendHas (inputs.SourceLost b))) → ⊥
 lost_quiet ask acked true t = t
 lost_quiet ask acked false t = t
+
+-- ---- a receiver's lane that talks behind its act
+
+abbrev pub is_accept : RecvAct → Bool
+is_accept recv_acts.Accept = true
+is_accept act = false
+
+module _ (w : PlainWorld) (l : ℕ) (s : IsSound w) (within : l < length w.pairs) where
+  abbrev pub stance : RecvHold → Stance
+  stance = recv_stance (recv.lane_at w.receiver l) (recv.past_at w.receiver l).is_idle (recv.past_at w.receiver l).is_acked
+
+  abbrev warns : RecvHold → Type 0
+  warns rh = IsTalking (recv_stance (record (recv.lane_at w.receiver l) { state = recv_states.SendAbort }) (recv.past_at w.receiver l).is_idle (recv.past_at w.receiver l).is_acked rh)
+
+  -- one that said that its end failed talks no more
+  pub warned_quiet : (fr : Frame) (taken : Option Link) → (pair_at w l).recv ≡ RecvDoes (recv_acts.Write fr) → recv.state_at w.receiver l ≡ recv_states.SendAbort → IsTalking (stance (recv_writes (pair_at w l) fr taken).recv) → ⊥
+  warned_quiet fr taken holds here t = go taken (subst (λ (st : RecvState). IsTalking (recv_stance (record (recv.lane_at w.receiver l) { state = st }) (recv.past_at w.receiver l).is_idle (recv.past_at w.receiver l).is_acked (recv_writes (pair_at w l) fr taken).recv)) here t) where
+    by : (b : Bool) → warns (RecvHas (recv_wrote_or_lost b)) → ⊥
+    by true x = x
+    by false x = x
+
+    go : (o : Option Link) → warns (recv_writes (pair_at w l) fr o).recv → ⊥
+    go None x = subst warns holds x
+    go (Some k) x = by (not (is_cut k.up) && not (send_left (pair_at w l).newest (pair_at w l).send)) x
+
+  -- talked before it
+  pub acts_talk : (act : RecvAct) → (pair_at w l).recv ≡ RecvDoes act → is_accept act ≡ false → IsTalking (stance (recv_does (pair_at w l) act).recv) → IsTalking (receives_at w l)
+  acts_talk act holds other talks = go act holds other talks where
+    reading : (a : RecvAct) → (pair_at w l).recv ≡ RecvDoes a → RecvReads (RecvDoes a) (stance (RecvDoes a))
+    reading a is = subst (λ (y : RecvHold). RecvReads y (stance y)) is (lane_holds w l s within).recv_reads
+
+    writes : (fr : Frame) → (pair_at w l).recv ≡ RecvDoes (recv_acts.Write fr) → IsTalking (stance (recv_writes (pair_at w l) fr (pair_at w l).taken).recv) → RecvBelongs (RecvDoes (recv_acts.Write fr)) (recv.lane_at w.receiver l) (recv.past_at w.receiver l) → IsTalking (receives_at w l)
+    writes fr is t (inl x) = absurd (warned_quiet fr (pair_at w l).taken is x.1 t)
+    writes fr is t (inr x) =
+        subst IsTalking (sym (ap stance is ∙ talks_in (recv.lane_at w.receiver l) (recv.past_at w.receiver l).is_idle (recv.past_at w.receiver l).is_acked x.from x.to (recv.state_at w.receiver l) x.before x.after)) tt
+
+    go : (a : RecvAct) → (pair_at w l).recv ≡ RecvDoes a → is_accept a ≡ false → IsTalking (stance (recv_does (pair_at w l) a).recv) → IsTalking (receives_at w l)
+    go recv_acts.Accept is o t = cc
+    go (recv_acts.Write fr) is o t = writes fr is t (subst (λ (y : RecvHold). RecvBelongs y (recv.lane_at w.receiver l) (recv.past_at w.receiver l)) is (s.belongs.recv l within))
+    go recv_acts.Read is o t = subst IsTalking (ap stance (sym is)) (listens_in recv_listens (stance (RecvDoes recv_acts.Read)) (reading recv_acts.Read is))
+    go (recv_acts.TakePiece n) is o t = subst IsTalking (ap stance (sym is)) (listens_in recv_listens (stance (RecvDoes (recv_acts.TakePiece n))) (reading (recv_acts.TakePiece n) is))
+    go recv_acts.Park is o t = t
+    go recv_acts.Stop is o t = t
 
 -- ---- an act of the sender's lane
 
@@ -196,17 +232,6 @@ module _ (w : PlainWorld) (l : ℕ) (s : IsSound w) (f : Finishing w) (within : 
       let fares = recv_fares w l recv_states.Listen s.talk within here in
       absurd (both_ways (has (telling w l) q) (ap (λ (ks : List ℕ). has ks q) ((legal_sound (terms_of w.receiver) w.receiver.history l s.talk.receiver.legal).off fares.goes_on.link).telling) e)
 
-  -- one that said that its end failed talks no more
-  warned_quiet : (fr : Frame) (taken : Option Link) → recv.state_at w.receiver l ≡ recv_states.SendAbort → IsTalking (recv_stance (recv.lane_at w.receiver l) (recv.past_at w.receiver l).is_idle (recv.past_at w.receiver l).is_acked (recv_writes (has_recv (RecvDoes (recv_acts.Write fr))) fr taken).recv) → ⊥
-  warned_quiet fr taken here t = go taken (subst (λ (st : RecvState). IsTalking (recv_stance (record (recv.lane_at w.receiver l) { state = st }) (recv.past_at w.receiver l).is_idle (recv.past_at w.receiver l).is_acked (recv_writes (has_recv (RecvDoes (recv_acts.Write fr))) fr taken).recv)) here t) where
-    by : (b : Bool) → IsTalking (recv_stance (record (recv.lane_at w.receiver l) { state = recv_states.SendAbort }) (recv.past_at w.receiver l).is_idle (recv.past_at w.receiver l).is_acked (RecvHas (recv_wrote_or_lost b))) → ⊥
-    by true x = x
-    by false x = x
-
-    go : (o : Option Link) → IsTalking (recv_stance (record (recv.lane_at w.receiver l) { state = recv_states.SendAbort }) (recv.past_at w.receiver l).is_idle (recv.past_at w.receiver l).is_acked (recv_writes (has_recv (RecvDoes (recv_acts.Write fr))) fr o).recv) → ⊥
-    go None x = x
-    go (Some k) x = by (not (is_cut k.up) && not (send_left (pair_at w l).newest (pair_at w l).send)) x
-
   -- where it tells of closed lanes, no last word comes down
   none_down : (r : Phase) → receives_at w l ≡ Talks r → r ≡ Asked → has_done (down_sent (pair_at w l).taken) ≡ false
   none_down r receives asked = go (pair_at w l).taken (s.talk.lanes l within).agrees.on_taken where
@@ -217,33 +242,31 @@ module _ (w : PlainWorld) (l : ℕ) (s : IsSound w) (f : Finishing w) (within : 
         (subst (λ (x : Stance). OnLink (send_there (pair_at w l).newest (sends_at w l)) x k.down.sent k.up.sent) (receives ∙ ap Talks asked) a))
 
   pub recv_act_tells : (act : RecvAct) → (pair_at w l).recv ≡ RecvDoes act → After (recv_does (pair_at w l) act)
-  recv_act_tells act holds = subst (λ (y : RecvHold). After (recv_does (has_recv y) act)) (sym holds) (go act holds) where
-    belongs : (a : RecvAct) → (pair_at w l).recv ≡ RecvDoes a → RecvBelongs (RecvDoes a) (recv.lane_at w.receiver l) (recv.past_at w.receiver l)
-    belongs a is = subst (λ (y : RecvHold). RecvBelongs y (recv.lane_at w.receiver l) (recv.past_at w.receiver l)) is (s.belongs.recv l within)
+  recv_act_tells act holds talks e = go act holds talks where
+    before : (a : RecvAct) → (pair_at w l).recv ≡ RecvDoes a → IsTalking (receives_at w l) → Still (has_recv (RecvDoes a))
+    before a is t = subst (λ (y : RecvHold). Still (has_recv y)) is (told t e)
 
-    before : (a : RecvAct) → (pair_at w l).recv ≡ RecvDoes a → IsTelling w l q → Still (has_recv (RecvDoes a))
-    before a is t = subst (λ (y : RecvHold). Still (has_recv y)) is t
+    out : (a : RecvAct) → (pair_at w l).recv ≡ RecvDoes a → Still (recv_does (has_recv (RecvDoes a)) a) → Still (recv_does (pair_at w l) a)
+    out a is x = subst (λ (y : RecvHold). Still (recv_does (has_recv y) a)) (sym is) x
 
-    reading : (a : RecvAct) → (pair_at w l).recv ≡ RecvDoes a → Listens recv_listens (recv_stance (recv.lane_at w.receiver l) (recv.past_at w.receiver l).is_idle (recv.past_at w.receiver l).is_acked (RecvDoes a)) → IsTalking (receives_at w l)
-    reading a is x = subst IsTalking (ap (recv_stance (recv.lane_at w.receiver l) (recv.past_at w.receiver l).is_idle (recv.past_at w.receiver l).is_acked) (sym is)) (listens_in recv_listens _ x)
+    writes : (fr : Frame) → (pair_at w l).recv ≡ RecvDoes (recv_acts.Write fr) → IsTalking (receives_at w l) → RecvBelongs (RecvDoes (recv_acts.Write fr)) (recv.lane_at w.receiver l) (recv.past_at w.receiver l)
+        → IsTalking (stance w l s within (recv_writes (pair_at w l) fr (pair_at w l).taken).recv) → Still (recv_does (has_recv (RecvDoes (recv_acts.Write fr))) (recv_acts.Write fr))
+    writes fr is t (inl x) talk = absurd (warned_quiet w l s within fr (pair_at w l).taken is x.1 talk)
+    writes fr is t (inr x) talk =
+        let stands : receives_at w l ≡ Talks x.from =
+        ap (recv_stance (recv.lane_at w.receiver l) (recv.past_at w.receiver l).is_idle (recv.past_at w.receiver l).is_acked) is
+        ∙ talks_in (recv.lane_at w.receiver l) (recv.past_at w.receiver l).is_idle (recv.past_at w.receiver l).is_acked x.from x.to (recv.state_at w.receiver l) x.before x.after in
+        recv_writes_tell Known q (pair_at w l).send (sends_at w l) (pair_at w l).between (pair_at w l).newest (pair_at w l).denies (pair_at w l).refusals fr (pair_at w l).taken
+        (λ m. none_down x.from stands (marks_asked q fr x.from x.to (or_none (marks_lane q fr) m) x.moves)) (before (recv_acts.Write fr) is t)
 
-    reads_of : (a : RecvAct) → (pair_at w l).recv ≡ RecvDoes a → RecvReads (RecvDoes a) (recv_stance (recv.lane_at w.receiver l) (recv.past_at w.receiver l).is_idle (recv.past_at w.receiver l).is_acked (RecvDoes a))
-    reads_of a is = subst (λ (y : RecvHold). RecvReads y (recv_stance (recv.lane_at w.receiver l) (recv.past_at w.receiver l).is_idle (recv.past_at w.receiver l).is_acked y)) is h.recv_reads
-
-    go : (a : RecvAct) → (pair_at w l).recv ≡ RecvDoes a → After (recv_does (has_recv (RecvDoes a)) a)
-    go recv_acts.Accept is talks e = none_told (belongs recv_acts.Accept is) e
-    go (recv_acts.Write fr) is talks e = by (belongs (recv_acts.Write fr) is) where
-      by : RecvBelongs (RecvDoes (recv_acts.Write fr)) (recv.lane_at w.receiver l) (recv.past_at w.receiver l) → Still (recv_does (has_recv (RecvDoes (recv_acts.Write fr))) (recv_acts.Write fr))
-      by (inl x) = absurd (warned_quiet fr (pair_at w l).taken x.1 talks)
-      by (inr x) =
-          let stands : receives_at w l ≡ Talks x.from =
-          ap (recv_stance (recv.lane_at w.receiver l) (recv.past_at w.receiver l).is_idle (recv.past_at w.receiver l).is_acked) is
-          ∙ talks_in (recv.lane_at w.receiver l) (recv.past_at w.receiver l).is_idle (recv.past_at w.receiver l).is_acked x.from x.to (recv.state_at w.receiver l) x.before x.after in
-          recv_writes_tell Known q (pair_at w l).send (sends_at w l) (pair_at w l).between (pair_at w l).newest (pair_at w l).denies (pair_at w l).refusals fr (pair_at w l).taken
-          (λ m. none_down x.from stands (marks_asked q fr x.from x.to (or_none (marks_lane q fr) m) x.moves)) (before (recv_acts.Write fr) is (told (subst IsTalking (sym stands) tt) e))
-    go recv_acts.Read is talks e =
-        recv_reads_tell Known q (pair_at w l).send (sends_at w l) (pair_at w l).between (pair_at w l).newest (pair_at w l).denies (pair_at w l).refusals (pair_at w l).taken (before recv_acts.Read is (told (reading recv_acts.Read is (reads_of recv_acts.Read is)) e))
-    go (recv_acts.TakePiece n) is talks e =
-        takes_tell Known q (pair_at w l).send (sends_at w l) (pair_at w l).between (pair_at w l).newest (pair_at w l).denies (pair_at w l).refusals n (pair_at w l).taken (before (recv_acts.TakePiece n) is (told (reading (recv_acts.TakePiece n) is (reads_of (recv_acts.TakePiece n) is)) e))
-    go recv_acts.Park is talks e = before recv_acts.Park is (told (subst IsTalking (ap (recv_stance (recv.lane_at w.receiver l) (recv.past_at w.receiver l).is_idle (recv.past_at w.receiver l).is_acked) (sym is)) talks) e)
-    go recv_acts.Stop is talks e = before recv_acts.Stop is (told (subst IsTalking (ap (recv_stance (recv.lane_at w.receiver l) (recv.past_at w.receiver l).is_idle (recv.past_at w.receiver l).is_acked) (sym is)) talks) e)
+    go : (a : RecvAct) → (pair_at w l).recv ≡ RecvDoes a → IsTalking (stance w l s within (recv_does (pair_at w l) a).recv) → Still (recv_does (pair_at w l) a)
+    go recv_acts.Accept is t = none_told (subst (λ (y : RecvHold). RecvBelongs y (recv.lane_at w.receiver l) (recv.past_at w.receiver l)) is (s.belongs.recv l within)) e
+    go (recv_acts.Write fr) is t = out (recv_acts.Write fr) is (writes fr is (acts_talk w l s within (recv_acts.Write fr) is refl t) (subst (λ (y : RecvHold). RecvBelongs y (recv.lane_at w.receiver l) (recv.past_at w.receiver l)) is (s.belongs.recv l within)) t)
+    go recv_acts.Read is t =
+        out recv_acts.Read is
+        (recv_reads_tell Known q (pair_at w l).send (sends_at w l) (pair_at w l).between (pair_at w l).newest (pair_at w l).denies (pair_at w l).refusals (pair_at w l).taken (before recv_acts.Read is (acts_talk w l s within recv_acts.Read is refl t)))
+    go (recv_acts.TakePiece n) is t =
+        out (recv_acts.TakePiece n) is
+        (takes_tell Known q (pair_at w l).send (sends_at w l) (pair_at w l).between (pair_at w l).newest (pair_at w l).denies (pair_at w l).refusals n (pair_at w l).taken (before (recv_acts.TakePiece n) is (acts_talk w l s within (recv_acts.TakePiece n) is refl t)))
+    go recv_acts.Park is t = told t e
+    go recv_acts.Stop is t = told t e

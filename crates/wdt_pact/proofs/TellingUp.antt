@@ -1,6 +1,6 @@
 -- A lane that told of a closed one: what an act of the receiver's lane leaves of it.
-use Rattle.std.proofs.Common.{◌≡◌, ◌⊎◌, inl, inr, ℕ, ◌||◌, ◌&&◌, not, Bool, true, false, List, [], ◌∷◌, ◌++◌, Option, Some, None, subst, sym, ap, ◌∙◌, refl, append_assoc}
-use Rattle.std.proofs.lemmas.Bool.{both_ways, or_from}
+use Rattle.std.proofs.Common.{◌≡◌, inl, inr, ℕ, ◌||◌, ◌&&◌, not, Bool, true, false, List, [], ◌∷◌, ◌++◌, Option, Some, None, sym, ap, ◌∙◌, refl, append_assoc}
+use Rattle.std.proofs.lemmas.Bool.{both_ways}
 use Rattle.wdt_codec.specs.declared.frames.Frame.{Frame}
 use Rattle.wdt_sender_fsm.specs.Phases.{Message, Framed, Piece}
 use Rattle.wdt_receiver_fsm.specs.declared.acts.RecvAct.{RecvAct}
@@ -8,9 +8,9 @@ use Rattle.wdt_receiver_fsm.specs.declared.acts.RecvAct.TheVariants as recv_acts
 use Rattle.wdt_receiver_fsm.specs.declared.inputs.RecvIn.TheVariants as recv_inputs
 use Rattle.wdt_pact.specs.Links.{Link, Way, front, is_cut, size_down, with_sent}
 use Rattle.wdt_pact.specs.Pairs.{Pair, SendHold, RecvHold, RecvDoes, RecvHas, RecvTook, recv_nothing, recv_reads, recv_reads_by, recv_takes, recv_takes_by, recv_writes, recv_wrote_or_lost, send_left}
-use Rattle.wdt_pact.specs.Stances.{IsTalking, Stance}
+use Rattle.wdt_pact.specs.Stances.{Stance}
 use Rattle.wdt_pact.specs.Lists.{has_done, in_hand}
-use Rattle.wdt_pact.specs.Conversation.{send_in_hand, to_say, up_sent}
+use Rattle.wdt_pact.specs.Conversation.{send_in_hand, to_say}
 use Rattle.wdt_pact.specs.Finishing.{down_sent, marked_in, marks_lane}
 use Rattle.wdt_pact.proofs.Below.{if_has}
 use Rattle.wdt_pact.proofs.Reading.{front_head}

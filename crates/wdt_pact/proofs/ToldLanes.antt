@@ -1,5 +1,5 @@
 -- What a receiver's lane tells of is closed, and what it told of on its connection is confirmed, or the lane tells of it.
-use Rattle.std.proofs.Common.{◌≡◌, ◌⊎◌, inl, inr, ℕ, ◌==◌, ◌||◌, Bool, true, false, if◌then◌else◌, List, [], ◌∷◌, ◌++◌, filter, subst, sym, ap, ◌∙◌, refl, append-nil, append_assoc, eqb-true}
+use Rattle.std.proofs.Common.{◌≡◌, ◌⊎◌, inl, inr, ℕ, ◌<◌, ◌==◌, ◌||◌, Bool, true, false, if◌then◌else◌, List, [], ◌∷◌, ◌++◌, length, filter, subst, sym, ap, ◌∙◌, refl, append-nil, append_assoc, eqb-true}
 use Rattle.std.proofs.lemmas.Bool.{and_parts, both_ways, or_cases}
 use Rattle.std.proofs.lemmas.List.Folds.{list_any-append}
 use Rattle.wdt_units.specs.LaneSets.{has_lane, only_lane}
@@ -11,7 +11,7 @@ use Rattle.wdt_receiver_fsm.specs.Legal.{IsAllowed, IsLegal, IsLegal-more, IsLeg
 use Rattle.wdt_receiver_fsm.specs.PlainReceiver.{PlainReceiver, past_at}
 use Rattle.wdt_receiver_fsm.specs.Ready.{is_confirmed, is_untold, untold}
 use Rattle.wdt_receiver_fsm.specs.Receiver.{IsReceiver, terms_of}
-use Rattle.wdt_receiver_fsm.specs.ReceiverHistory.{Confirm, RecvPast, confirm_after, confirm_of, confirm_of-append, past_after, past_of, past_of-append, past_of-none}
+use Rattle.wdt_receiver_fsm.specs.ReceiverHistory.{Confirm, RecvPast, confirm_after, confirm_of, confirm_of-append, is_closed_after, past_after, past_of, past_of-append, past_of-none}
 use Rattle.wdt_receiver_fsm.specs.Sets.{has, lanes_of, numbers, set_of}
 use Rattle.wdt_receiver_fsm.proofs.ForCallers.{tellers_tell}
 
@@ -153,3 +153,27 @@ tells_closed r l q is = (all (terms_of r) r.history l q is.legal).closed
 pub told_known : (r : PlainReceiver) (l q : ℕ) → IsReceiver r → (past_at r l).is_up ≡ true → has (past_at r l).told q ≡ true
     → (is_confirmed r.history q ≡ true) ⊎ (((past_at r l).is_idle ≡ false) × (has (past_at r l).telling q ≡ true))
 told_known r l q is = (all (terms_of r) r.history l q is.legal).known
+
+-- ---- a closed lane is there
+
+in_lanes : (t : Terms) (g : List RecvEvent) (q : ℕ) (s : Bool) (e : RecvEvent) → IsAllowed t g e → (s ≡ true → q < t.lanes) → is_closed_after q s e ≡ true → q < t.lanes
+in_lanes t g q s (events.Close k) a f x = go (k.0 == q) refl x
+  where
+    go : (b : Bool) → (k.0 == q) ≡ b → (if b then true else s) ≡ true → q < t.lanes
+    go true is y = subst (λ (i : ℕ). i < t.lanes) (eqb-true k.0 q is) a.speaks.within
+    go false is y = f y
+in_lanes t g q s e a f x = f x
+
+closed_from : (t : Terms) (b g : List RecvEvent) (q : ℕ) → ((past_of b q).is_closed ≡ true → q < t.lanes) → legal_from t b g → (past_of (b ++ g) q).is_closed ≡ true → q < t.lanes
+closed_from t b [] q f legal e = f (ap (λ (h : List RecvEvent). (past_of h q).is_closed) (sym (append-nil b)) ∙ e)
+closed_from t b (d ∷ g) q f legal e =
+    closed_from t (b ++ d ∷ []) g q
+    (λ x. in_lanes t b q (past_of b q).is_closed d legal.0 f (ap (λ (p : RecvPast). p.is_closed) (sym (past_of-append b (d ∷ []) q)) ∙ x)) legal.1
+    (ap (λ (h : List RecvEvent). (past_of h q).is_closed) (append_assoc b (d ∷ []) g) ∙ e)
+
+closed_in : (t : Terms) (g : List RecvEvent) (q : ℕ) → IsLegal t g → (past_of g q).is_closed ≡ true → q < t.lanes
+unfolding IsLegal
+closed_in t g q legal e = closed_from t [] g q (λ x. absurd (both_ways (past_of [] q).is_closed (ap (λ (p : RecvPast). p.is_closed) (past_of-none q)) x)) legal e
+
+pub closed_there : (r : PlainReceiver) (q : ℕ) → IsReceiver r → (past_at r q).is_closed ≡ true → q < length r.lanes
+closed_there r q is e = closed_in (terms_of r) r.history q is.legal e

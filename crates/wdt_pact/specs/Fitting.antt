@@ -1,5 +1,5 @@
 -- What goes down lies in the grammar's ranges, both ends keep to theirs, and what every world without a stop keeps.
-use Rattle.std.specs.Prelude.{◌≡◌, ℕ, ◌<◌, ◌≤◌, ◌-◌, ◌^◌, length, slice_get, Option, Some, None}
+use Rattle.std.specs.Prelude.{◌≡◌, ℕ, ◌<◌, ◌≤◌, ◌-◌, ◌^◌, List, length, slice_get, Option, Some, None}
 use Rattle.wdt_codec.specs.Frames.{Fits}
 use Rattle.wdt_codec.specs.declared.frames.Frame.TheVariants as frames
 use Rattle.wdt_sender_fsm.specs.declared.acts.SendAct.TheVariants as acts
@@ -74,3 +74,7 @@ lane_of (Receives l broken) = l
 lane_of (Cut l down up) = l
 lane_of (Deny l) = l
 lane_of (Refuse l) = l
+
+-- each of some events is of one of n lanes
+abbrev pub AreOfLanes : ℕ → List WorldEvent → Type 0
+AreOfLanes n es = Each (λ (e : WorldEvent). lane_of e < n) es

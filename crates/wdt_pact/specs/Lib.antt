@@ -10,4 +10,5 @@ pub mod Bytes
 pub mod Finishing
 pub mod Fitting
 pub mod Progress
+pub mod Right
 pub mod Measure

@@ -1,6 +1,6 @@
 -- A world of two plain ends and their connections, by messages, and what each event makes of it. Whether the
 -- source fails in a block, and which program of calls on the disk fails, is said with the event.
-use Rattle.std.specs.Prelude.{ℕ, zero, suc, List, [], length, replicate, slice_get, slice_set, Option, Some, None}
+use Rattle.std.specs.Prelude.{ℕ, zero, suc, List, [], ◌∷◌, length, replicate, slice_get, slice_set, Option, Some, None}
 use Rattle.wdt_units.specs.declared.numbers.Conn.{Conn}
 use Rattle.wdt_units.specs.declared.numbers.Lane.{Lane}
 use Rattle.wdt_logfmt.specs.View.{Meaning}
@@ -122,6 +122,11 @@ happens w (Receives l broken) = recv_steps w l broken
 happens w (Cut l down up) = let p = pair_at w l in with_pair w l (cuts_by p down up (top p))
 happens w (Deny l) = let p = pair_at w l in with_pair w l record p { denies = suc p.denies }
 happens w (Refuse l) = let p = pair_at w l in with_pair w l record p { refusals = suc p.refusals }
+
+-- the world behind some events, one after the other
+abbrev pub all_happen : PlainWorld → List WorldEvent → PlainWorld
+all_happen w [] = w
+all_happen w (e ∷ es) = all_happen (happens w e) es
 
 -- ---- a world that begins
 

@@ -42,13 +42,14 @@ ghost use Rattle.wdt_pact.specs.Belongs.{RecvBelongsAt, RecvFits, SendBelongsAt}
 ghost use Rattle.wdt_pact.specs.Bytes.{FitsFront, FrontDown, FrontUp, bytes_down, bytes_up};
 ghost use Rattle.wdt_pact.specs.Conversation.{Conversation, common, receives, receiving, sending, sends};
 ghost use Rattle.wdt_pact.specs.Each.{Each};
-ghost use Rattle.wdt_pact.specs.Finishing.{ComesOfPlan, Finishing, IsTelling, receives_at, telling};
-ghost use Rattle.wdt_pact.specs.Fitting.{GoesDown, IsSound, lane_of};
+ghost use Rattle.wdt_pact.specs.Finishing.{ComesOfPlan, Finishing, IsBusy, IsTelling, receives_at, telling};
+ghost use Rattle.wdt_pact.specs.Fitting.{AreOfLanes, GoesDown, IsSound, lane_of};
 ghost use Rattle.wdt_pact.specs.Links.{front, size_down, size_up};
 ghost use Rattle.wdt_pact.specs.Lists.{Splits};
 ghost use Rattle.wdt_pact.specs.Pairs.{RecvDoes, RecvHas, RecvTook, SendDoes, SendHas};
 ghost use Rattle.wdt_pact.specs.Progress.{Holds, Moves};
-ghost use Rattle.wdt_pact.specs.World.{Cut, PlainWorld, WorldEvent, first_world, happens, number, pair_at, recv_steps, send_steps};
+ghost use Rattle.wdt_pact.specs.Right.{IsRight};
+ghost use Rattle.wdt_pact.specs.World.{Cut, PlainWorld, WorldEvent, all_happen, first_world, happens, number, pair_at, recv_steps, send_steps};
 ghost use Rattle.wdt_sender_fsm.specs.declared.states.SendState.{SendState};
 
 use wdt_receiver_fsm::receivers_stay_receivers;
@@ -201,7 +202,7 @@ pub fn counts_are_right()
     ensures greeting { (w : PlainWorld) (l : ℕ) (mark : Mark) → Conversation w → l < length w.pairs → state_at w.sender l ≡ states.ReadLocalCheckpoint
         → (pair_at w l).send ≡ SendHas (inputs.Got (frames.Greeting mark)) → (mark.lane.0 ≡ l) × (count_fault (past_at w.sender l).claims mark.count ≡ None) }
     ensures marks { (w : PlainWorld) (l : ℕ) (marks : List Mark) → Conversation w → l < length w.pairs → state_at w.sender l ≡ states.ReadReceiverCmd
-        → (pair_at w l).send ≡ SendHas (inputs.Got (frames.ErrMarks marks)) → has_stranger (length w.sender.lanes) l marks ≡ false → marks_fault w.sender.history marks ≡ None }
+        → (pair_at w l).send ≡ SendHas (inputs.Got (frames.ErrMarks marks)) → (has_stranger (length w.sender.lanes) l marks ≡ false) × (marks_fault w.sender.history marks ≡ None) }
 {
     histories_are_sound();
 }
@@ -277,6 +278,54 @@ pub fn nothing_waits_behind_the_finish()
     histories_are_sound();
     steps_have_outcomes();
     steps_touch_their_lane();
+}
+
+/// Whatever happens to a sound world, as long as blocks wait at the sender and the receiver's end hasn't failed, some lane may
+/// still take them: an open one on which the sender's last word neither was read nor comes, or a closed one whose blocks
+/// will go to such a lane.
+pub fn waiting_blocks_have_a_lane()
+    ensures { (w : PlainWorld) (e : WorldEvent) → IsSound w → Finishing w → lane_of e < length w.pairs → is_failure (happens w e).receiver.answer ≡ false → (waiting_blocks (happens w e).sender ≡ [] → ⊥)
+        → (l : ℕ) × (l < length (happens w e).pairs) × IsBusy (happens w e) l }
+{
+    histories_are_sound();
+    senders_stay_senders();
+    steps_answer_rightly();
+    steps_have_outcomes();
+    steps_touch_their_lane();
+}
+
+/// Whatever happens to a sound world whose finish is as it must be, event after event, it stays sound, and its finish as it must
+/// be. So does a world that begins, of a tree within the sender's limits and a log that the receiver can tell.
+pub fn worlds_stay_sound()
+    ensures event { (w : PlainWorld) (e : WorldEvent) → IsSound w → Finishing w → lane_of e < length w.pairs → Finishing (happens w e) }
+    ensures events { (w : PlainWorld) (es : List WorldEvent) → IsSound w → Finishing w → AreOfLanes (length w.pairs) es → IsSound (all_happen w es) × Finishing (all_happen w es) }
+    ensures begun { (manifest : List Entry) (block session : ℕ) (log : Meaning) (batch n : ℕ) (conn : Conn) (es : List WorldEvent) → 1 ≤ n → n ≤ 16
+        → IsLawful (opened manifest block session (replicate n new_lane)) → ((file : ℕ) (entry : Entry) → slice_get manifest file ≡ Some entry → entry.stamp ≤ 2 ^ 64 - 1)
+        → FitsChunks (have_now log.files []) → AreOfLanes n es → IsSound (all_happen (first_world manifest block session log batch n conn) es) × Finishing (all_happen (first_world manifest block session log batch n conn) es) }
+{
+    histories_are_sound();
+    senders_stay_senders();
+    receivers_stay_receivers();
+    steps_answer_rightly();
+    steps_have_outcomes();
+    steps_touch_their_lane();
+}
+
+/// In a sound world whose finish is as it must be nothing goes wrong at any lane, and so in each that began, whatever happened
+/// to it: no frame is unexpected, no count is wrong, and neither the finish nor the last word that tells of it is early.
+pub fn nothing_goes_wrong()
+    ensures lane { (w : PlainWorld) (l : ℕ) → IsSound w → Finishing w → l < length w.pairs → IsRight w l }
+    ensures begun { (manifest : List Entry) (block session : ℕ) (log : Meaning) (batch n : ℕ) (conn : Conn) (es : List WorldEvent) (l : ℕ) → 1 ≤ n → n ≤ 16
+        → IsLawful (opened manifest block session (replicate n new_lane)) → ((file : ℕ) (entry : Entry) → slice_get manifest file ≡ Some entry → entry.stamp ≤ 2 ^ 64 - 1)
+        → FitsChunks (have_now log.files []) → AreOfLanes n es → l < n → IsRight (all_happen (first_world manifest block session log batch n conn) es) l }
+{
+    histories_are_sound();
+    senders_stay_senders();
+    receivers_stay_receivers();
+    steps_answer_rightly();
+    steps_have_outcomes();
+    steps_touch_their_lane();
+    a_sender_speaks_in_turn();
 }
 
 /// Where a lane reads that nothing more is to come, and the receiver is ready for the finish with it, no block
