@@ -63,6 +63,7 @@ mod RecvSeen
 mod Events
 mod Confirming
 mod Telling
+mod SendMarks
 mod SendSeen
 mod TellingUp
 mod RecvTalks
@@ -71,5 +72,7 @@ mod TellingAll
 mod Planning
 mod Emptying
 mod Coming
+mod Taken
 mod Witnessing
 mod Worlds
+mod Still

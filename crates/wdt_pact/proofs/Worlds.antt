@@ -44,13 +44,17 @@ use Rattle.wdt_pact.proofs.Witnessing.{witness_after}
 
 -- a world keeps its lanes
 pub many_stay : (w : PlainWorld) (e : WorldEvent) → length (happens w e).pairs ≡ length w.pairs
-many_stay w (Sends l lost) = send_cases (λ (v : PlainWorld). length v.pairs ≡ length w.pairs) w l lost (λ act is. length-set w.pairs l _) (λ input is. length-set w.pairs l _)
-many_stay w (Receives l broken) = recv_cases (λ (v : PlainWorld). length v.pairs ≡ length w.pairs) w l broken refl (λ act is. length-set w.pairs l _) (λ put hands. length-set w.pairs l _)
+many_stay w (Sends l lost) =
+    send_cases (λ (v : PlainWorld). length v.pairs ≡ length w.pairs) w l lost (λ act is. length-set w.pairs l _) (λ input is. length-set w.pairs l _)
+many_stay w (Receives l broken) =
+    recv_cases (λ (v : PlainWorld). length v.pairs ≡ length w.pairs) w l broken refl (λ act is. length-set w.pairs l _)
+    (λ put hands. length-set w.pairs l _)
 many_stay w (Cut l down up) = length-set w.pairs l _
 many_stay w (Deny l) = length-set w.pairs l _
 many_stay w (Refuse l) = length-set w.pairs l _
 
-module _ (sounds : SoundLanes) (stay : StayClosed) (touches : SenderTouches) (comes : SenderComes) (keeps : (w : PlainWorld) (e : WorldEvent) → IsSound w → Finishing w → lane_of e < length w.pairs → IsSound (happens w e)) where
+module _ (sounds : SoundLanes) (stay : StayClosed) (touches : SenderTouches) (comes : SenderComes)
+    (keeps : (w : PlainWorld) (e : WorldEvent) → IsSound w → Finishing w → lane_of e < length w.pairs → IsSound (happens w e)) where
   pub finishing_after : (w : PlainWorld) (e : WorldEvent) → IsSound w → Finishing w → lane_of e < length w.pairs → Finishing (happens w e)
   finishing_after w e s f within =
       record {
@@ -67,9 +71,12 @@ module _ (sounds : SoundLanes) (stay : StayClosed) (touches : SenderTouches) (co
   pub lanes_stay : (n m : ℕ) (es : List WorldEvent) → m ≡ n → AreOfLanes n es → AreOfLanes m es
   lanes_stay n m es is a = subst (λ (k : ℕ). AreOfLanes k es) (sym is) a
 
-  pub all_after : (es : List WorldEvent) (w : PlainWorld) → IsSound w → Finishing w → AreOfLanes (length w.pairs) es → IsSound (all_happen w es) × Finishing (all_happen w es)
+  pub all_after : (es : List WorldEvent) (w : PlainWorld) → IsSound w → Finishing w → AreOfLanes (length w.pairs) es
+      → IsSound (all_happen w es) × Finishing (all_happen w es)
   all_after [] w s f of = (s, f)
-  all_after (e ∷ es) w s f of = all_after es (happens w e) (keeps w e s f of.0) (finishing_after w e s f of.0) (lanes_stay (length w.pairs) (length (happens w e).pairs) es (many_stay w e) of.1)
+  all_after (e ∷ es) w s f of =
+      all_after es (happens w e) (keeps w e s f of.0) (finishing_after w e s f of.0)
+      (lanes_stay (length w.pairs) (length (happens w e).pairs) es (many_stay w e) of.1)
 
 -- ---- the receiver's last word is never early
 
@@ -98,19 +105,23 @@ first_told : (st : Stance) (q : Phase) (P : Frame → Type 0) (u : Frame) (us : 
 first_told st q P u us is all = (subst (λ (x : Stance). AllTell x P (u ∷ us)) is all).0
 
 -- a lane reads it only behind the finish
-pub word_finished : (w : PlainWorld) (l : ℕ) → IsSound w → l < length w.pairs → (pair_at w l).send ≡ SendHas (inputs.Got frames.Done) → (common w.receiver).finish ≡ true
+pub word_finished : (w : PlainWorld) (l : ℕ) → IsSound w → l < length w.pairs → (pair_at w l).send ≡ SendHas (inputs.Got frames.Done)
+    → (common w.receiver).finish ≡ true
 word_finished w l s within holds =
     let at = s.talk.lanes l within in
     let reads = subst (λ (h : SendHold). SendBelongs h (lane_at w.sender l)) holds (s.belongs.send l within) in
     let heard = subst (λ (h : SendHold). HeardUp h (lane_at w.sender l)) holds at.heard_up in
     let q = some_word (phase_heard frames.Done (phase_by (lane_at w.sender l).ask false (state_at w.sender l))) (is_send_out (state_at w.sender l) || is_abort frames.Done) heard (ap (λ (b : Bool). b || false) (reading_in (state_at w.sender l) reads)) in
     let told = subst (λ (h : SendHold). AllTell (send_stance (lane_at w.sender l) (past_at w.sender l).is_acked h) (Tells (common w.receiver) l (receiving w.receiver l).landed) (upward_by (pair_at w l).newest (pair_at w l).taken h (pair_at w l).recv)) holds at.upward in
-    first_told (send_stance (lane_at w.sender l) (past_at w.sender l).is_acked (SendHas (inputs.Got frames.Done))) q.0 (Tells (common w.receiver) l (receiving w.receiver l).landed) frames.Done _ q.1 told
+    first_told (send_stance (lane_at w.sender l) (past_at w.sender l).is_acked (SendHas (inputs.Got frames.Done))) q.0
+    (Tells (common w.receiver) l (receiving w.receiver l).landed) frames.Done _ q.1 told
 
-pub never_early : (w : PlainWorld) (l : ℕ) → IsSound w → Finishing w → l < length w.pairs → (pair_at w l).send ≡ SendHas (inputs.Got frames.Done) → unfinished_blocks w.sender ≡ 0
+pub never_early : (w : PlainWorld) (l : ℕ) → IsSound w → Finishing w → l < length w.pairs → (pair_at w l).send ≡ SendHas (inputs.Got frames.Done)
+    → unfinished_blocks w.sender ≡ 0
 never_early w l s f within holds =
     let come = word_finished w l s within holds in
-    omega (arith, ap length (f.empty come), none_held (length w.sender.lanes) (λ k. (past_of w.sender.history k).claims) (λ k small. ((s.talk.lanes k (subst (λ (n : ℕ). k < n) s.talk.send_lanes small)).finished come).holds))
+    omega
+    (arith, ap length (f.empty come), none_held (length w.sender.lanes) (λ k. (past_of w.sender.history k).claims) (λ k small. ((s.talk.lanes k (subst (λ (n : ℕ). k < n) s.talk.send_lanes small)).finished come).holds))
 
 -- ---- nothing goes wrong
 
@@ -118,7 +129,8 @@ splits_none : (kept landed : List Header) → Splits kept landed [] → kept ≡
 unfolding Splits
 splits_none kept landed m = m ∙ append-nil landed
 
-pub is_right : SoundLanes → ((state : SendState) (ask acked : Bool) (frame : Frame) (q : Phase) → phase_heard frame (phase_by ask acked state) ≡ Some q → is_named (row_of state (inputs.Got frame)) ≡ true)
+pub is_right : SoundLanes
+    → ((state : SendState) (ask acked : Bool) (frame : Frame) (q : Phase) → phase_heard frame (phase_by ask acked state) ≡ Some q → is_named (row_of state (inputs.Got frame)) ≡ true)
     → (w : PlainWorld) (l : ℕ) → IsSound w → Finishing w → l < length w.pairs → IsRight w l
 is_right sounds hears w l s f within =
     record {
@@ -133,13 +145,18 @@ is_right sounds hears w l s f within =
 
 -- ---- worlds that began
 
-module _ (sounds : SoundLanes) (stay : StayClosed) (touches : SenderTouches) (comes : SenderComes) (keeps : (w : PlainWorld) (e : WorldEvent) → IsSound w → Finishing w → lane_of e < length w.pairs → IsSound (happens w e))
-    (sent : (manifest : List Entry) (block session n : ℕ) → 1 ≤ n → IsSender (opened manifest block session (replicate n new_lane))) (received : (log : Meaning) (batch n : ℕ) → n ≤ 16 → IsReceiver (recv.opened log batch (replicate n recv.new_lane))) where
+module _ (sounds : SoundLanes) (stay : StayClosed) (touches : SenderTouches) (comes : SenderComes)
+    (keeps : (w : PlainWorld) (e : WorldEvent) → IsSound w → Finishing w → lane_of e < length w.pairs → IsSound (happens w e))
+    (sent : (manifest : List Entry) (block session n : ℕ) → 1 ≤ n → IsSender (opened manifest block session (replicate n new_lane)))
+    (received : (log : Meaning) (batch n : ℕ) → n ≤ 16 → IsReceiver (recv.opened log batch (replicate n recv.new_lane))) where
   pub all_begun : (manifest : List Entry) (block session : ℕ) (log : Meaning) (batch n : ℕ) (conn : Conn) (es : List WorldEvent) → 1 ≤ n → n ≤ 16
-      → IsLawful (opened manifest block session (replicate n new_lane)) → ((file : ℕ) (entry : Entry) → slice_get manifest file ≡ Some entry → entry.stamp ≤ 2 ^ 64 - 1)
-      → FitsChunks (have_now log.files []) → AreOfLanes n es → IsSound (all_happen (first_world manifest block session log batch n conn) es) × Finishing (all_happen (first_world manifest block session log batch n conn) es)
+      → IsLawful (opened manifest block session (replicate n new_lane)) →
+      ((file : ℕ) (entry : Entry) → slice_get manifest file ≡ Some entry → entry.stamp ≤ 2 ^ 64 - 1)
+      → FitsChunks (have_now log.files []) → AreOfLanes n es → IsSound (all_happen (first_world manifest block session log batch n conn) es) × Finishing
+      (all_happen (first_world manifest block session log batch n conn) es)
   all_begun manifest block session log batch n conn es some few lawful stamps have of =
-      all_after sounds stay touches comes keeps es (first_world manifest block session log batch n conn) (sound_first manifest block session log batch n conn (sent manifest block session n some) (received log batch n few) lawful stamps have)
+      all_after sounds stay touches comes keeps es (first_world manifest block session log batch n conn)
+      (sound_first manifest block session log batch n conn (sent manifest block session n some) (received log batch n few) lawful stamps have)
       (finishing_first manifest block session log batch n conn some) (subst (λ (m : ℕ). AreOfLanes m es) (sym (length-replicate n (first_pair conn))) of)
 
 -- a world keeps its lanes, whatever happens
@@ -147,6 +164,7 @@ pub all_stay : (es : List WorldEvent) (w : PlainWorld) → length (all_happen w 
 all_stay [] w = refl
 all_stay (e ∷ es) w = all_stay es (happens w e) ∙ many_stay w e
 
-pub lanes_begun : (manifest : List Entry) (block session : ℕ) (log : Meaning) (batch n : ℕ) (conn : Conn) (es : List WorldEvent) (l : ℕ) → l < n → l < length (all_happen (first_world manifest block session log batch n conn) es).pairs
+pub lanes_begun : (manifest : List Entry) (block session : ℕ) (log : Meaning) (batch n : ℕ) (conn : Conn) (es : List WorldEvent) (l : ℕ) → l < n
+    → l < length (all_happen (first_world manifest block session log batch n conn) es).pairs
 lanes_begun manifest block session log batch n conn es l within =
     subst (λ (m : ℕ). l < m) (sym (all_stay es (first_world manifest block session log batch n conn) ∙ length-replicate n (first_pair conn))) within

@@ -47,7 +47,7 @@ ghost use Rattle.wdt_pact.specs.Fitting.{AreOfLanes, GoesDown, IsSound, lane_of}
 ghost use Rattle.wdt_pact.specs.Links.{front, size_down, size_up};
 ghost use Rattle.wdt_pact.specs.Lists.{Splits};
 ghost use Rattle.wdt_pact.specs.Pairs.{RecvDoes, RecvHas, RecvTook, SendDoes, SendHas};
-ghost use Rattle.wdt_pact.specs.Progress.{Holds, Moves};
+ghost use Rattle.wdt_pact.specs.Progress.{GoesOn, HasStopped, Holds, Moves};
 ghost use Rattle.wdt_pact.specs.Right.{IsRight};
 ghost use Rattle.wdt_pact.specs.World.{Cut, PlainWorld, WorldEvent, all_happen, first_world, happens, number, pair_at, recv_steps, send_steps};
 ghost use Rattle.wdt_sender_fsm.specs.declared.states.SendState.{SendState};
@@ -348,6 +348,12 @@ pub fn one_end_can_move()
     ensures holds { (w : PlainWorld) (l : ℕ) → IsSound w → l < length w.pairs
         → Holds (sends (sending w.sender l) (pair_at w l)) (receives (receiving w.receiver l) (pair_at w l)) (state_at w.sender l) (recv.state_at w.receiver l) (pair_at w l) }
     ensures moves { (w : PlainWorld) (l : ℕ) → IsSound w → l < length w.pairs → Moves (pair_at w l) }
+{}
+
+/// A sound world stands still only where both ends of all its lanes have stopped: else an end of some lane can move, or a lane of the
+/// receiver that waits for the others goes on once woken, since it is told that they are through, or has to tell of one.
+pub fn no_world_stands_still()
+    ensures { (w : PlainWorld) → IsSound w → ((l : ℕ) × (l < length w.pairs) × GoesOn w l) ⊎ ((l : ℕ) → l < length w.pairs → HasStopped w l) }
 {}
 
 /// What is read of bytes that were cut anywhere is the message at the front, exactly where it can be taken
