@@ -64,6 +64,7 @@ mod Events
 mod Confirming
 mod Telling
 mod SendMarks
+mod SendSight
 mod SendSeen
 mod TellingUp
 mod RecvTalks
@@ -74,5 +75,7 @@ mod Emptying
 mod Coming
 mod Taken
 mod Witnessing
+mod Agreeing
 mod Worlds
+mod Faultless
 mod Still

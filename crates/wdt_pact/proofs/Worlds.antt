@@ -33,6 +33,7 @@ use Rattle.wdt_pact.specs.Pairs.{SendHold, SendHas}
 use Rattle.wdt_pact.specs.Right.{IsRight}
 use Rattle.wdt_pact.specs.Stances.{Stance, Talks, send_stance, stand}
 use Rattle.wdt_pact.specs.World.{PlainWorld, WorldEvent, Sends, Receives, Cut, Deny, Refuse, all_happen, first_pair, first_world, happens, pair_at}
+use Rattle.wdt_pact.proofs.Agreeing.{list_after, told_true}
 use Rattle.wdt_pact.proofs.Beginning.{finishing_first, lands_in_order, receives_named, sends_named, sound_first}
 use Rattle.wdt_pact.proofs.Confirming.{SenderTouches, SoundLanes, StayClosed, confirmed_after, ready_after}
 use Rattle.wdt_pact.proofs.Counting.{greeting_right, marks_right}
@@ -64,6 +65,7 @@ module _ (sounds : SoundLanes) (stay : StayClosed) (touches : SenderTouches) (co
         ready = ready_after sounds stay touches w e s f within;
         tells = tells_after touches comes w e s f within;
         sized = sized_after touches comes w e s f within;
+        list = list_after touches w e s f within;
         empty = empty_after sounds touches comes w e s f within;
         planned = planned_after sounds touches comes w e s f within;
       }
@@ -90,31 +92,9 @@ none_held (suc n) f none =
     ∙ (ap (λ (c : ℕ). count_by is_held (tabulate n f) + c) (sum_by-cons one_if (f n) [] ∙ ap (λ (b : Bool). cond b 1 0 + 0) (none n (omega arith)))
     ∙ omega (arith, none_held n f (λ k small. none k (omega (arith, small)))))
 
-some_word : (o : Option Phase) (free : Bool) → IsWord o free → free ≡ false → (q : Phase) × (stand false o ≡ Talks q)
-some_word (Some q) free w e = (q, refl)
-some_word None true w e = cc
-some_word None false w e = absurd w
-
-reading_in : (st : SendState) → is_reading st ≡ true → is_send_out st ≡ false
-reading_in states.ReadLocalCheckpoint e = refl
-reading_in states.ReadFileChunks e = refl
-reading_in states.ReadReceiverCmd e = refl
-reading_in st e = cc
-
-first_told : (st : Stance) (q : Phase) (P : Frame → Type 0) (u : Frame) (us : List Frame) → st ≡ Talks q → AllTell st P (u ∷ us) → P u
-first_told st q P u us is all = (subst (λ (x : Stance). AllTell x P (u ∷ us)) is all).0
-
 -- a lane reads it only behind the finish
-pub word_finished : (w : PlainWorld) (l : ℕ) → IsSound w → l < length w.pairs → (pair_at w l).send ≡ SendHas (inputs.Got frames.Done)
-    → (common w.receiver).finish ≡ true
-word_finished w l s within holds =
-    let at = s.talk.lanes l within in
-    let reads = subst (λ (h : SendHold). SendBelongs h (lane_at w.sender l)) holds (s.belongs.send l within) in
-    let heard = subst (λ (h : SendHold). HeardUp h (lane_at w.sender l)) holds at.heard_up in
-    let q = some_word (phase_heard frames.Done (phase_by (lane_at w.sender l).ask false (state_at w.sender l))) (is_send_out (state_at w.sender l) || is_abort frames.Done) heard (ap (λ (b : Bool). b || false) (reading_in (state_at w.sender l) reads)) in
-    let told = subst (λ (h : SendHold). AllTell (send_stance (lane_at w.sender l) (past_at w.sender l).is_acked h) (Tells (common w.receiver) l (receiving w.receiver l).landed) (upward_by (pair_at w l).newest (pair_at w l).taken h (pair_at w l).recv)) holds at.upward in
-    first_told (send_stance (lane_at w.sender l) (past_at w.sender l).is_acked (SendHas (inputs.Got frames.Done))) q.0
-    (Tells (common w.receiver) l (receiving w.receiver l).landed) frames.Done _ q.1 told
+pub word_finished : (w : PlainWorld) (l : ℕ) → IsSound w → l < length w.pairs → (pair_at w l).send ≡ SendHas (inputs.Got frames.Done) → (common w.receiver).finish ≡ true
+word_finished w l s within holds = told_true w l frames.Done s within holds refl
 
 pub never_early : (w : PlainWorld) (l : ℕ) → IsSound w → Finishing w → l < length w.pairs → (pair_at w l).send ≡ SendHas (inputs.Got frames.Done)
     → unfinished_blocks w.sender ≡ 0
