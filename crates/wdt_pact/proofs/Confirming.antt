@@ -48,21 +48,25 @@ SenderTouches = (s : PlainSender) (k : Lane) (i : SendIn) → Touches s k i (sen
 
 closed_more : StayClosed → (h es : List SendEvent) (l m : ℕ) → (sent_past h l).claims.closed ≡ Some m → (sent_past (h ++ es) l).claims.closed ≡ Some m
 closed_more stay h [] l m is = ap (λ (g : List SendEvent). (sent_past g l).claims.closed) (append-nil h) ∙ is
-closed_more stay h (e ∷ es) l m is = ap (λ (g : List SendEvent). (sent_past g l).claims.closed) (sym (append_assoc h (e ∷ []) es)) ∙ closed_more stay (h ++ e ∷ []) es l m (stay h e l m is)
+closed_more stay h (e ∷ es) l m is =
+    ap (λ (g : List SendEvent). (sent_past g l).claims.closed) (sym (append_assoc h (e ∷ []) es)) ∙ closed_more stay (h ++ e ∷ []) es l m (stay h e l m is)
 
-pub closed_stays : StayClosed → SenderTouches → (s : PlainSender) (k : Lane) (i : SendIn) (q : ℕ) → is_closed s q ≡ true → is_closed (send_turn s k i).1 q ≡ true
+pub closed_stays : StayClosed → SenderTouches → (s : PlainSender) (k : Lane) (i : SendIn) (q : ℕ) → is_closed s q ≡ true
+    → is_closed (send_turn s k i).1 q ≡ true
 closed_stays stay touches s k i q is = go (sent_past s.history q).claims.closed refl is where
   h : (send_turn s k i).1.history ≡ s.history ++ (touches s k i).history.entries
   h = (touches s k i).history.behind
 
   go : (o : Option ℕ) → (sent_past s.history q).claims.closed ≡ o → is_some o ≡ true → is_closed (send_turn s k i).1 q ≡ true
   go None at e = cc
-  go (Some m) at e = ap is_some (ap (λ (g : List SendEvent). (sent_past g q).claims.closed) h ∙ closed_more stay s.history (touches s k i).history.entries q m at)
+  go (Some m) at e =
+      ap is_some (ap (λ (g : List SendEvent). (sent_past g q).claims.closed) h ∙ closed_more stay s.history (touches s k i).history.entries q m at)
 
 -- ---- a lane that asks for the end
 
 -- how it stands in such a history
-module _ (r : PlainReceiver) (l : ℕ) (put : Put) (g : List RecvEvent) (legal : (past_at r l).is_idle ≡ true → (past_at r l).telling ≡ []) (p : Point r l put g) where
+module _ (r : PlainReceiver) (l : ℕ) (put : Put) (g : List RecvEvent) (legal : (past_at r l).is_idle ≡ true → (past_at r l).telling ≡ [])
+    (p : Point r l put g) where
   pub point_idle : (past_of g l).is_idle ≡ true
   point_idle = go p where
     go : Point r l put g → (past_of g l).is_idle ≡ true
@@ -85,12 +89,15 @@ module _ (r : PlainReceiver) (l : ℕ) (put : Put) (g : List RecvEvent) (legal :
   point_finish = go p where
     go : Point r l put g → (end_of g).has_finish ≡ has_finish r
     go (WasIdle is idle) = ap (λ (x : List RecvEvent). (end_of x).has_finish) is
-    go (NowIdle is here sized given sound) = ap (λ (x : List RecvEvent). (end_of x).has_finish) is ∙ ap (λ (x : EndPast). x.has_finish) (end_of-append r.history (events.Idle (number l) ∷ []))
+    go (NowIdle is here sized given sound) =
+        ap (λ (x : List RecvEvent). (end_of x).has_finish) is ∙ ap (λ (x : EndPast). x.has_finish) (end_of-append r.history (events.Idle (number l) ∷ []))
 
   -- whom it confirms
-  pub point_confirms : (q : ℕ) → is_confirmed g q ≡ true → (is_confirmed r.history q ≡ true) ⊎ ((g ≡ r.history ++ events.Idle (number l) ∷ []) × (has (confirm_of r.history q).tellers l ≡ true))
+  pub point_confirms : (q : ℕ) → is_confirmed g q ≡ true
+      → (is_confirmed r.history q ≡ true) ⊎ ((g ≡ r.history ++ events.Idle (number l) ∷ []) × (has (confirm_of r.history q).tellers l ≡ true))
   point_confirms q e = go p where
-    go : Point r l put g → (is_confirmed r.history q ≡ true) ⊎ ((g ≡ r.history ++ events.Idle (number l) ∷ []) × (has (confirm_of r.history q).tellers l ≡ true))
+    go : Point r l put g
+        → (is_confirmed r.history q ≡ true) ⊎ ((g ≡ r.history ++ events.Idle (number l) ∷ []) × (has (confirm_of r.history q).tellers l ≡ true))
     go (WasIdle is idle) = inl (ap (λ (x : List RecvEvent). is_confirmed x q) (sym is) ∙ e)
     go (NowIdle is here sized given sound) =
         elim (or_cases (is_confirmed r.history q) (has (confirm_of r.history q).tellers l)
@@ -110,7 +117,8 @@ ready_known n h k e within = let a = and_parts _ _ e in every_at n k (is_known_c
 or_false : (a b : Bool) → a ≡ false → b ≡ false → (a || b) ≡ true → ⊥
 or_false a b x y e = elim (or_cases a b e) [ inl z ↦ both_ways a x z | inr z ↦ both_ways b y z ]
 
-module _ (sounds : SoundLanes) (w : PlainWorld) (l : ℕ) (c : Conversation w) (f : Finishing w) (within : l < length w.pairs) (put : Put) (hands : Hands (pair_at w l).recv put) (belongs : RecvBelongsAt w l) where
+module _ (sounds : SoundLanes) (w : PlainWorld) (l : ℕ) (c : Conversation w) (f : Finishing w) (within : l < length w.pairs) (put : Put)
+    (hands : Hands (pair_at w l).recv put) (belongs : RecvBelongsAt w l) where
   abbrev Ending : Step → Type 0
   Ending step = EndsIn (Unit {0}) (turn_plan w.receiver (number l) put) step
 
@@ -123,10 +131,13 @@ module _ (sounds : SoundLanes) (w : PlainWorld) (l : ℕ) (c : Conversation w) (
   -- whom the lane confirms as it asks for the end, the sender knows as closed
   pub point_knows : (g : List RecvEvent) → Point w.receiver l put g → (q : ℕ) → is_confirmed g q ≡ true → is_closed w.sender q ≡ true
   point_knows g p q e = go p (point_confirms w.receiver l put g quiet_idle p q e) where
-    go : Point w.receiver l put g → (is_confirmed w.receiver.history q ≡ true) ⊎ ((g ≡ w.receiver.history ++ events.Idle (number l) ∷ []) × (has (confirm_of w.receiver.history q).tellers l ≡ true)) → is_closed w.sender q ≡ true
+    go : Point w.receiver l put g
+        → (is_confirmed w.receiver.history q ≡ true) ⊎ ((g ≡ w.receiver.history ++ events.Idle (number l) ∷ []) × (has (confirm_of w.receiver.history q).tellers l ≡ true))
+        → is_closed w.sender q ≡ true
     go x (inl y) = f.confirmed q y
     go (NowIdle is here sized given sound) (inr y) =
-        told_closed sounds w l c f within here sized (holds_input (pair_at w l).recv put (inputs.Got frames.Done) hands given refl) sound q (tellers_tell (terms_of w.receiver) w.receiver.history l q c.receiver.legal ∙ y.1)
+        told_closed sounds w l c f within here sized (holds_input (pair_at w l).recv put (inputs.Got frames.Done) hands given refl) sound q
+        (tellers_tell (terms_of w.receiver) w.receiver.history l q c.receiver.legal ∙ y.1)
     go (WasIdle is idle) (inr y) = f.confirmed q (ap (λ (x : List RecvEvent). is_confirmed x q) (sym is) ∙ e)
 
   pub recv_confirmed : (step : Step) → Ending step → (q : ℕ) → is_confirmed step.1.history q ≡ true → is_closed w.sender q ≡ true
@@ -137,14 +148,17 @@ module _ (sounds : SoundLanes) (w : PlainWorld) (l : ℕ) (c : Conversation w) (
     go (Closes come o) = f.confirmed q (sym (o.confirmed q) ∙ e)
     go (Asks p why) = point_knows step.1.history p q e
     go (Tells t k ks p many untold is) =
-        point_knows t.history p q (sym (ap (λ (x : Step). is_confirmed x.1.history q) is ∙ ap (λ (x : Confirm). x.is_confirmed) (confirm_of-append t.history (events.Told (number l) (set_of (k ∷ ks)) ∷ []) q)) ∙ e)
+        point_knows t.history p q
+        (sym (ap (λ (x : Step). is_confirmed x.1.history q) is ∙ ap (λ (x : Confirm). x.is_confirmed) (confirm_of-append t.history (events.Told (number l) (set_of (k ∷ ks)) ∷ []) q)) ∙ e)
     go (Ends t sound p many first ready is) =
-        point_knows t.history p q (sym (ap (λ (x : List RecvEvent). is_confirmed x q) is ∙ ap (λ (x : Confirm). x.is_confirmed) (confirm_of-append t.history (events.Finish ∷ []) q)) ∙ e)
+        point_knows t.history p q
+        (sym (ap (λ (x : List RecvEvent). is_confirmed x q) is ∙ ap (λ (x : Confirm). x.is_confirmed) (confirm_of-append t.history (events.Finish ∷ []) q)) ∙ e)
 
   -- an end that hasn't failed hadn't
   pub sound_before : (step : Step) → Ending step → is_failure step.1.answer ≡ false → is_failure w.receiver.answer ≡ false
   sound_before step ends sound =
-      false_from_ne_true (is_failure w.receiver.answer) (λ e. both_ways (is_failure step.1.answer) sound (ap (λ (x : PlainReceiver). is_failure x.answer) ((turn_follows w.receiver (number l) put step ends).still e) ∙ e))
+      false_from_ne_true (is_failure w.receiver.answer)
+      (λ e. both_ways (is_failure step.1.answer) sound (ap (λ (x : PlainReceiver). is_failure x.answer) ((turn_follows w.receiver (number l) put step ends).still e) ∙ e))
 
   below : l < length w.receiver.lanes
   below = subst (λ (n : ℕ). l < n) (sym c.recv_lanes) within
@@ -156,7 +170,9 @@ module _ (sounds : SoundLanes) (w : PlainWorld) (l : ℕ) (c : Conversation w) (
 
     go : Seen w.receiver l put step → has_finish step.1 ≡ true
     go (Stays s) = s.finish ∙ f.ready (sound_before step ends sound) (sym (ready_same (length w.receiver.lanes) w.receiver.history step.1.history s) ∙ at)
-    go (Drops o) = absurd (or_false (past_of step.1.history l).is_idle (past_of step.1.history l).is_closed o.idle o.closed (ready_rests (length w.receiver.lanes) step.1.history l at below))
+    go (Drops o) =
+        absurd
+        (or_false (past_of step.1.history l).is_idle (past_of step.1.history l).is_closed o.idle o.closed (ready_rests (length w.receiver.lanes) step.1.history l at below))
     go (Closes come o) =
         elim (or_cases (not (past_of step.1.history l).is_closed) (is_confirmed step.1.history l) (ready_known (length w.receiver.lanes) step.1.history l at below)) [
           | inl x ↦ absurd (both_ways true (sym x ∙ ap not o.closed) refl)
@@ -169,31 +185,38 @@ module _ (sounds : SoundLanes) (w : PlainWorld) (l : ℕ) (c : Conversation w) (
         let h : List RecvEvent = t.history ++ events.Told (number l) (set_of (k ∷ ks)) ∷ [] in
         let same : step.1.history ≡ h = ap (λ (x : Step). x.1.history) is in
         let past : past_of h l ≡ _ = past_of-append t.history (events.Told (number l) (set_of (k ∷ ks)) ∷ []) l in
-        absurd (or_false (past_of h l).is_idle (past_of h l).is_closed (ap (λ (x : RecvPast). x.is_idle) past ∙ rw (eq-eqb l l refl) refl) (ap (λ (x : RecvPast). x.is_closed) past ∙ (point_closed w.receiver l put t.history quiet_idle p l ∙ opens))
+        absurd
+        (or_false (past_of h l).is_idle (past_of h l).is_closed (ap (λ (x : RecvPast). x.is_idle) past ∙ rw (eq-eqb l l refl) refl) (ap (λ (x : RecvPast). x.is_closed) past ∙ (point_closed w.receiver l put t.history quiet_idle p l ∙ opens))
         (subst (λ (g : List RecvEvent). rests g l ≡ true) same (ready_rests (length w.receiver.lanes) step.1.history l at below)))
-    go (Ends t well p many first ready is) = ap (λ (x : List RecvEvent). (end_of x).has_finish) is ∙ ap (λ (x : EndPast). x.has_finish) (end_of-append t.history (events.Finish ∷ []))
+    go (Ends t well p many first ready is) =
+        ap (λ (x : List RecvEvent). (end_of x).has_finish) is ∙ ap (λ (x : EndPast). x.has_finish) (end_of-append t.history (events.Finish ∷ []))
 
 -- ---- whatever happens
 
 module _ (sounds : SoundLanes) (stay : StayClosed) (touches : SenderTouches) where
   -- a confirmed lane is closed at the sender
-  pub confirmed_after : (w : PlainWorld) (e : WorldEvent) → IsSound w → Finishing w → lane_of e < length w.pairs → (q : ℕ) → is_confirmed (happens w e).receiver.history q ≡ true → is_closed (happens w e).sender q ≡ true
+  pub confirmed_after : (w : PlainWorld) (e : WorldEvent) → IsSound w → Finishing w → lane_of e < length w.pairs → (q : ℕ)
+      → is_confirmed (happens w e).receiver.history q ≡ true → is_closed (happens w e).sender q ≡ true
   confirmed_after w (Sends l lost) s f within q =
       send_cases (λ (v : PlainWorld). is_confirmed v.receiver.history q ≡ true → is_closed v.sender q ≡ true) w l lost
       (λ act is e. f.confirmed q e) (λ input is e. closed_stays stay touches w.sender (number l) input q (f.confirmed q e))
   confirmed_after w (Receives l broken) s f within q =
       recv_cases (λ (v : PlainWorld). is_confirmed v.receiver.history q ≡ true → is_closed v.sender q ≡ true) w l broken (f.confirmed q)
-      (λ act is e. f.confirmed q e) (λ put hands e. recv_confirmed sounds w l s.talk f within put hands (s.belongs.recv l within) (recv_turn w.receiver l put broken) (ends_in (turn_plan w.receiver (number l) put) broken) q e)
+      (λ act is e. f.confirmed q e)
+      (λ put hands e. recv_confirmed sounds w l s.talk f within put hands (s.belongs.recv l within) (recv_turn w.receiver l put broken) (ends_in (turn_plan w.receiver (number l) put) broken) q e)
   confirmed_after w (Cut l down up) s f within q = f.confirmed q
   confirmed_after w (Deny l) s f within q = f.confirmed q
   confirmed_after w (Refuse l) s f within q = f.confirmed q
 
   -- a finish that is ready has come
-  pub ready_after : (w : PlainWorld) (e : WorldEvent) → IsSound w → Finishing w → lane_of e < length w.pairs → is_failure (happens w e).receiver.answer ≡ false → can_finish (happens w e).receiver ≡ true → has_finish (happens w e).receiver ≡ true
+  pub ready_after : (w : PlainWorld) (e : WorldEvent) → IsSound w → Finishing w → lane_of e < length w.pairs
+      → is_failure (happens w e).receiver.answer ≡ false → can_finish (happens w e).receiver ≡ true → has_finish (happens w e).receiver ≡ true
   ready_after w (Sends l lost) s f within =
-      send_cases (λ (v : PlainWorld). is_failure v.receiver.answer ≡ false → can_finish v.receiver ≡ true → has_finish v.receiver ≡ true) w l lost (λ act is. f.ready) (λ input is. f.ready)
+      send_cases (λ (v : PlainWorld). is_failure v.receiver.answer ≡ false → can_finish v.receiver ≡ true → has_finish v.receiver ≡ true) w l lost
+      (λ act is. f.ready) (λ input is. f.ready)
   ready_after w (Receives l broken) s f within =
-      recv_cases (λ (v : PlainWorld). is_failure v.receiver.answer ≡ false → can_finish v.receiver ≡ true → has_finish v.receiver ≡ true) w l broken f.ready (λ act is. f.ready)
+      recv_cases (λ (v : PlainWorld). is_failure v.receiver.answer ≡ false → can_finish v.receiver ≡ true → has_finish v.receiver ≡ true) w l broken f.ready
+      (λ act is. f.ready)
       (λ put hands. recv_ready sounds w l s.talk f within put hands (s.belongs.recv l within) (recv_turn w.receiver l put broken) (ends_in (turn_plan w.receiver (number l) put) broken))
   ready_after w (Cut l down up) s f within = f.ready
   ready_after w (Deny l) s f within = f.ready

@@ -23,7 +23,8 @@ send_cases P w l lost acts turns = go (pair_at w l).send refl where
   go (SendHas input) is = subst (λ (x : SendHold). P (send_steps_by w l lost x)) (sym is) (turns input is)
 
 -- a lane that waits on has changed nothing
-woken : (P : PlainWorld → Type 0) (w : PlainWorld) (l : ℕ) (act : RecvAct) (r : PlainReceiver) → P w → P (recv_turned w l (act, r)) → P (recv_woken w l (act, r))
+woken : (P : PlainWorld → Type 0) (w : PlainWorld) (l : ℕ) (act : RecvAct) (r : PlainReceiver) → P w → P (recv_turned w l (act, r))
+    → P (recv_woken w l (act, r))
 woken P w l recv_acts.Park r c x = c
 woken P w l act r c x = x
 

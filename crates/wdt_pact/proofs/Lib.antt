@@ -63,6 +63,8 @@ mod RecvSeen
 mod Events
 mod Confirming
 mod Telling
+mod SendMarks
+mod SendSight
 mod SendSeen
 mod TellingUp
 mod RecvTalks
@@ -71,5 +73,9 @@ mod TellingAll
 mod Planning
 mod Emptying
 mod Coming
+mod Taken
 mod Witnessing
+mod Agreeing
 mod Worlds
+mod Faultless
+mod Still

@@ -86,7 +86,8 @@ AllTell w = (l : ℕ) → l < length w.pairs → GoesDown (ComesOfPlan (is_some 
 
 pair_down : (w : PlainWorld) (l : ℕ) (p : Pair) → l < length w.pairs → AllTell w → GoesDown (ComesOfPlan (is_some w.sender.have)) p → AllTell (with_pair w l p)
 pair_down w l p within all own k small =
-    each_pair (λ (i : ℕ) (x : Pair). GoesDown (ComesOfPlan (is_some w.sender.have)) x) w.pairs l p within own (λ i b ne. all i b) k (subst (λ (n : ℕ). k < n) (length-set w.pairs l p) small)
+    each_pair (λ (i : ℕ) (x : Pair). GoesDown (ComesOfPlan (is_some w.sender.have)) x) w.pairs l p within own (λ i b ne. all i b) k
+    (subst (λ (n : ℕ). k < n) (length-set w.pairs l p) small)
 
 -- ---- a turn of the sender's lane
 
@@ -94,22 +95,26 @@ pub plan_stays : (s : PlainSender) (input : SendIn) (t : PlainSender) → Plans 
 plan_stays s input t (AsBefore have plan) e = ap is_some have ∙ e
 plan_stays s input t (Anew have given none is plan) e = ap is_some is
 
-module _ (touches : SenderTouches) (comes : SenderComes) (w : PlainWorld) (l : ℕ) (input : SendIn) (s : IsSound w) (f : Finishing w) (within : l < length w.pairs) (holds : (pair_at w l).send ≡ SendHas input) where
+module _ (touches : SenderTouches) (comes : SenderComes) (w : PlainWorld) (l : ℕ) (input : SendIn) (s : IsSound w) (f : Finishing w)
+    (within : l < length w.pairs) (holds : (pair_at w l).send ≡ SendHas input) where
   abbrev Says : SendStep → Type 0
   Says step = SaysOf (ComesOfPlan (is_some step.1.have)) (SendDoes step.0)
 
   belongs : SendBelongs (SendHas input) (lane_at w.sender l)
   belongs = subst (λ (h : SendHold). SendBelongs h (lane_at w.sender l)) holds (s.belongs.send l within)
 
-  failing : (answer : EndAnswer) (mute : Bool) → reasons.Fails w.sender (number l) input answer mute → Says (sent.came_to w.sender (number l) (sent.Failed answer mute))
-  failing answer mute (reasons.OfMemory m going given here is) = send_seen.hands_not comes w l input s.talk f.empty f.planned within holds belongs _ given (λ b. b)
+  failing : (answer : EndAnswer) (mute : Bool) → reasons.Fails w.sender (number l) input answer mute
+      → Says (sent.came_to w.sender (number l) (sent.Failed answer mute))
+  failing answer mute (reasons.OfMemory m going given here is) =
+      send_seen.hands_not comes w l input s.talk f.empty f.planned within holds belongs _ given (λ b. b)
   failing answer mute (reasons.OfReceiver st code serves reads given) = tt
   failing answer mute (reasons.OfSource true serves given) = tt
   failing answer mute (reasons.OfSource false serves given) = tt
   failing answer mute (reasons.OfPlan kind serves refuses) = tt
   failing answer mute (reasons.OfPeer st kind serves reads mistake) = tt
 
-  greeted : (count : ℕ) (ask : Bool) → (lane_at w.sender l).ask ≡ ask → reasons.Serves w.sender (number l) states.ReadLocalCheckpoint → Says (greeted_by (noted w.sender (sent_events.Greet (number l) count ∷ [])) (number l) ask)
+  greeted : (count : ℕ) (ask : Bool) → (lane_at w.sender l).ask ≡ ask → reasons.Serves w.sender (number l) states.ReadLocalCheckpoint
+      → Says (greeted_by (noted w.sender (sent_events.Greet (number l) count ∷ [])) (number l) ask)
   greeted count true is serves = tt
   greeted count false is serves =
       let fares : Fares (is_failure w.sender.answer) states.ReadLocalCheckpoint (lane_at w.sender l).ask (past_at w.sender l) (sender_history.end_of w.sender.history) = fares_in w l states.ReadLocalCheckpoint s.talk within serves.here (open_none (past_at w.sender l).claims.closed serves.is_open) in
@@ -160,7 +165,8 @@ module _ (touches : SenderTouches) (comes : SenderComes) (w : PlainWorld) (l : �
 abbrev ReadsSize : Put → Type 0
 ReadsSize put = (files bytes : ℕ) × (put ≡ Given (inputs.Got (frames.Size files bytes)))
 
-module _ (w : PlainWorld) (l : ℕ) (c : Conversation w) (within : l < length w.pairs) (put : Put) (hands : Hands (pair_at w l).recv put) (belongs : RecvBelongsAt w l) where
+module _ (w : PlainWorld) (l : ℕ) (c : Conversation w) (within : l < length w.pairs) (put : Put) (hands : Hands (pair_at w l).recv put)
+    (belongs : RecvBelongsAt w l) where
   abbrev Same : List RecvEvent → Type 0
   Same g = (end_of g).sized ≡ (end_of w.receiver.history).sized
 
@@ -175,10 +181,12 @@ module _ (w : PlainWorld) (l : ℕ) (c : Conversation w) (within : l < length w.
   point t (ByWait serves given is) = ap (λ (x : PlainReceiver). (end_of x.history).sized) is
   point t (ByWaking serves given is) = ap (λ (x : PlainReceiver). (end_of x.history).sized) is
 
-  one : (g : List RecvEvent) (e : RecvEvent) → g ≡ w.receiver.history ++ e ∷ [] → (end_from (end_of w.receiver.history) (e ∷ [])).sized ≡ (end_of w.receiver.history).sized → Sizes g
+  one : (g : List RecvEvent) (e : RecvEvent) → g ≡ w.receiver.history ++ e ∷ []
+      → (end_from (end_of w.receiver.history) (e ∷ [])).sized ≡ (end_of w.receiver.history).sized → Sizes g
   one g e is same = inl (more w.receiver.history g (e ∷ []) is same refl)
 
-  failing_sized : (t : PlainReceiver) (answer : EndAnswer) (mute : Bool) → outcomes.Fails w.receiver (number l) put t answer mute → Sizes (came_to w.receiver (number l) (Failed t answer mute)).1.history
+  failing_sized : (t : PlainReceiver) (answer : EndAnswer) (mute : Bool) → outcomes.Fails w.receiver (number l) put t answer mute
+      → Sizes (came_to w.receiver (number l) (Failed t answer mute)).1.history
   failing_sized t answer mute (OfMemory m going given here is) = recv_seen.hands_not w l c within put hands belongs inputs.Starved given refl (λ b. b)
   failing_sized t answer mute (OfSender st code serves reads given) = one _ (events.Abort (number l) code) refl refl
   failing_sized t answer mute (OfPeer st kind serves reads mistake) = one _ (events.Peer (number l) kind) refl refl
@@ -202,10 +210,13 @@ module _ (w : PlainWorld) (l : ℕ) (c : Conversation w) (within : l < length w.
   reads_on t (ByChunks serves given) = inl refl
   reads_on t (ByMarks serves given) = inl refl
   reads_on t (ByLanding b lands few) = one _ (events.Land (number l)) refl refl
-  reads_on t (ByLogging b lands full) = one _ (events.Land (number l)) (logged_history (landed_by w.receiver (number l) b) (landed_by w.receiver (number l) b).unlogged) refl
+  reads_on t (ByLogging b lands full) =
+      one _ (events.Land (number l)) (logged_history (landed_by w.receiver (number l) b) (landed_by w.receiver (number l) b).unlogged) refl
 
   begins_so : (t : PlainReceiver) (b : Block) (left : ℕ) → Same t.history → Sizes (begins_by t (number l) b left).1.history
-  begins_so t b zero same = inl (more (t.history ++ events.Begin (number l) b ∷ []) _ (events.Land (number l) ∷ []) refl refl (more t.history _ (events.Begin (number l) b ∷ []) refl refl same))
+  begins_so t b zero same =
+      inl
+      (more (t.history ++ events.Begin (number l) b ∷ []) _ (events.Land (number l) ∷ []) refl refl (more t.history _ (events.Begin (number l) b ∷ []) refl refl same))
   begins_so t b (suc left) same = inl (more t.history _ (events.Begin (number l) b ∷ []) refl refl same)
 
   begun : (t : PlainReceiver) (b : Block) → outcomes.Begins w.receiver (number l) put t b → Sizes (came_to w.receiver (number l) (Begun t b)).1.history
@@ -220,7 +231,8 @@ module _ (w : PlainWorld) (l : ℕ) (c : Conversation w) (within : l < length w.
 
   concludes : (t : PlainReceiver) → outcomes.Concludes w.receiver (number l) put t → Same t.history
   concludes t (WasFinished u idles come) = point u idles
-  concludes t (IsFinished u fin none) = more u.history _ (events.Finish ∷ []) (ap (λ (g : List RecvEvent). g ++ events.Finish ∷ []) (logged_history u u.unlogged)) refl (point u fin.idles)
+  concludes t (IsFinished u fin none) =
+      more u.history _ (events.Finish ∷ []) (ap (λ (g : List RecvEvent). g ++ events.Finish ∷ []) (logged_history u u.unlogged)) refl (point u fin.idles)
 
   outcome_sized : (o : Outcome) → ComesOf w.receiver (number l) put o → Sizes (came_to w.receiver (number l) o).1.history
   outcome_sized Rested of = inl refl
@@ -244,10 +256,12 @@ module _ (w : PlainWorld) (l : ℕ) (c : Conversation w) (within : l < length w.
   outcome_sized Acknowledged of = one _ (events.Acked (number l)) refl refl
 
   turn_sized : (step : Step) → EndsIn (Unit {0}) (turn_plan w.receiver (number l) put) step → Sizes step.1.history
-  turn_sized step ends = let x = end_comes w.receiver (number l) put (Unit {0}) step ends in subst (λ (y : Step). Sizes y.1.history) (sym x.is) (outcome_sized x.outcome x.of)
+  turn_sized step ends =
+      let x = end_comes w.receiver (number l) put (Unit {0}) step ends in subst (λ (y : Step). Sizes y.1.history) (sym x.is) (outcome_sized x.outcome x.of)
 
   -- the sender that told of it has a plan
-  pub recv_sized : Finishing w → (step : Step) → EndsIn (Unit {0}) (turn_plan w.receiver (number l) put) step → ((end_of step.1.history).sized ≡ None → ⊥) → is_some w.sender.have ≡ true
+  pub recv_sized : Finishing w → (step : Step) → EndsIn (Unit {0}) (turn_plan w.receiver (number l) put) step → ((end_of step.1.history).sized ≡ None → ⊥)
+      → is_some w.sender.have ≡ true
   recv_sized f step ends some = elim (turn_sized step ends) [
     | inl same ↦ f.sized (λ none. some (same ∙ none))
     | inr x ↦ (subst (λ (h : RecvHold). Each (ComesOfPlan (is_some w.sender.have)) (in_hand h)) (holds_input (pair_at w l).recv put (inputs.Got (frames.Size x.0 x.1)) hands x.2 refl) (f.tells l within).hand).0
@@ -271,11 +285,15 @@ module _ (touches : SenderTouches) (comes : SenderComes) where
       let p : Pair = pair_at w l in
       let d = f.tells l within in
       let P : Message → Type 0 = ComesOfPlan (is_some w.sender.have) in
-      pair_down w l (cuts_by p down up (top_by p.newest p.taken)) within f.tells (cuts_fit P (piece_comes (is_some w.sender.have)) p down up (top_by p.newest p.taken) (tops P (piece_comes (is_some w.sender.have)) p.newest p.taken d.newest d.taken) d)
-  tells_after w (Deny l) s f within = let d = f.tells l within in pair_down w l (record (pair_at w l) { denies = suc (pair_at w l).denies }) within f.tells record { hand = d.hand; says = d.says; taken = d.taken; between = d.between; newest = d.newest }
-  tells_after w (Refuse l) s f within = let d = f.tells l within in pair_down w l (record (pair_at w l) { refusals = suc (pair_at w l).refusals }) within f.tells record { hand = d.hand; says = d.says; taken = d.taken; between = d.between; newest = d.newest }
+      pair_down w l (cuts_by p down up (top_by p.newest p.taken)) within f.tells
+      (cuts_fit P (piece_comes (is_some w.sender.have)) p down up (top_by p.newest p.taken) (tops P (piece_comes (is_some w.sender.have)) p.newest p.taken d.newest d.taken) d)
+  tells_after w (Deny l) s f within =
+      let d = f.tells l within in pair_down w l (record (pair_at w l) { denies = suc (pair_at w l).denies }) within f.tells record { hand = d.hand; says = d.says; taken = d.taken; between = d.between; newest = d.newest }
+  tells_after w (Refuse l) s f within =
+      let d = f.tells l within in pair_down w l (record (pair_at w l) { refusals = suc (pair_at w l).refusals }) within f.tells record { hand = d.hand; says = d.says; taken = d.taken; between = d.between; newest = d.newest }
 
-  pub sized_after : (w : PlainWorld) (e : WorldEvent) → IsSound w → Finishing w → lane_of e < length w.pairs → ((end_of (happens w e).receiver.history).sized ≡ None → ⊥) → is_some (happens w e).sender.have ≡ true
+  pub sized_after : (w : PlainWorld) (e : WorldEvent) → IsSound w → Finishing w → lane_of e < length w.pairs
+      → ((end_of (happens w e).receiver.history).sized ≡ None → ⊥) → is_some (happens w e).sender.have ≡ true
   sized_after w (Sends l lost) s f within =
       send_cases (λ (v : PlainWorld). ((end_of v.receiver.history).sized ≡ None → ⊥) → is_some v.sender.have ≡ true) w l lost (λ act is. f.sized)
       (λ input is some. plan_stays w.sender input (send_turn w.sender (number l) input).1 (touches w.sender (number l) input).plan (f.sized some))

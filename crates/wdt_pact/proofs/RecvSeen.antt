@@ -139,7 +139,8 @@ pub record Off (g h : List RecvEvent) (l : ℕ) (shut : Bool) : Type 0 where
 -- a history in which lane l asks for the end: it did before, or the sender's last word was read with this step
 pub data Point (r : PlainReceiver) (l : ℕ) (put : Put) (g : List RecvEvent) : Type 0 where
   WasIdle : g ≡ r.history → (past_at r l).is_idle ≡ true → Point r l put g
-  NowIdle : g ≡ r.history ++ events.Idle (number l) ∷ [] → state_at r l ≡ states.ReadNextCmd → (lane_at r l).is_sized ≡ true → put ≡ Given (inputs.Got frames.Done) → is_failure r.answer ≡ false → Point r l put g
+  NowIdle : g ≡ r.history ++ events.Idle (number l) ∷ [] → state_at r l ≡ states.ReadNextCmd → (lane_at r l).is_sized ≡ true
+      → put ≡ Given (inputs.Got frames.Done) → is_failure r.answer ≡ false → Point r l put g
 
 -- what the lanes see of a step
 pub data Seen (r : PlainReceiver) (l : ℕ) (put : Put) (step : Step) : Type 0 where
@@ -152,9 +153,11 @@ pub data Seen (r : PlainReceiver) (l : ℕ) (put : Put) (step : Step) : Type 0 w
   -- the lane asks for the end: the end fails, or the finish came before or isn't ready
   Asks : Point r l put step.1.history → (is_failure step.1.answer ≡ true) ⊎ ((has_finish step.1 ≡ true) ⊎ (can_finish step.1 ≡ false)) → Seen r l put step
   -- the lane tells of closed ones
-  Tells : (t : PlainReceiver) (q : ℕ) (qs : List ℕ) → Point r l put t.history → length t.lanes ≡ length r.lanes → untold_at t l ≡ q ∷ qs → step ≡ tells_by t (number l) (q ∷ qs) → Seen r l put step
+  Tells : (t : PlainReceiver) (q : ℕ) (qs : List ℕ) → Point r l put t.history → length t.lanes ≡ length r.lanes → untold_at t l ≡ q ∷ qs
+      → step ≡ tells_by t (number l) (q ∷ qs) → Seen r l put step
   -- the finish comes
-  Ends : (t : PlainReceiver) → is_failure r.answer ≡ false → Point r l put t.history → length t.lanes ≡ length r.lanes → has_finish t ≡ false → can_finish t ≡ true → step.1.history ≡ t.history ++ events.Finish ∷ [] → Seen r l put step
+  Ends : (t : PlainReceiver) → is_failure r.answer ≡ false → Point r l put t.history → length t.lanes ≡ length r.lanes → has_finish t ≡ false
+      → can_finish t ≡ true → step.1.history ≡ t.history ++ events.Finish ∷ [] → Seen r l put step
 
 -- ---- each outcome
 
@@ -162,7 +165,8 @@ pub logged_history : (t : PlainReceiver) (bs : List Block) → (all_logged_by t 
 logged_history t [] = refl
 logged_history t (b ∷ bs) = refl
 
-module _ (w : PlainWorld) (l : ℕ) (c : Conversation w) (within : l < length w.pairs) (put : Put) (hands : Hands (pair_at w l).recv put) (belongs : RecvBelongsAt w l) where
+module _ (w : PlainWorld) (l : ℕ) (c : Conversation w) (within : l < length w.pairs) (put : Put) (hands : Hands (pair_at w l).recv put)
+    (belongs : RecvBelongsAt w l) where
   abbrev r : PlainReceiver
   r = w.receiver
 
@@ -179,21 +183,28 @@ module _ (w : PlainWorld) (l : ℕ) (c : Conversation w) (within : l < length w.
   goes_on = fares_goes (is_failure w.receiver.answer) (state_at w.receiver l) (lane_at w.receiver l) (past_at w.receiver l) (end_of w.receiver.history) (c.receiver.lanes l below) lives
 
   -- an input that no world hands in
-  pub hands_not : {P : Type 0} (input : RecvIn) → put ≡ Given input → is_woken input ≡ false → (RecvBelongs (RecvHas input) (lane_at w.receiver l) (past_at w.receiver l) → ⊥) → P
-  hands_not input given wakes none = absurd (none (subst (λ (h : RecvHold). RecvBelongs h (lane_at w.receiver l) (past_at w.receiver l)) (holds_input (pair_at w l).recv put input hands given wakes) belongs))
+  pub hands_not : {P : Type 0} (input : RecvIn) → put ≡ Given input → is_woken input ≡ false
+      → (RecvBelongs (RecvHas input) (lane_at w.receiver l) (past_at w.receiver l) → ⊥) → P
+  hands_not input given wakes none =
+      absurd
+      (none (subst (λ (h : RecvHold). RecvBelongs h (lane_at w.receiver l) (past_at w.receiver l)) (holds_input (pair_at w l).recv put input hands given wakes) belongs))
 
   same : (step : Step) → step.1.history ≡ w.receiver.history → Sees step
   same step is = Stays (steady_same w.receiver.history step.1.history is)
 
   -- one entry that says nothing of the lanes together
   quietly : (step : Step) (e : RecvEvent) → is_quiet e ≡ true → step.1.history ≡ w.receiver.history ++ e ∷ [] → Sees step
-  quietly step e quiet is = Stays (steady_on w.receiver.history (w.receiver.history ++ e ∷ []) step.1.history (steady_more w.receiver.history e quiet) (steady_same (w.receiver.history ++ e ∷ []) step.1.history is))
+  quietly step e quiet is =
+      Stays
+      (steady_on w.receiver.history (w.receiver.history ++ e ∷ []) step.1.history (steady_more w.receiver.history e quiet) (steady_same (w.receiver.history ++ e ∷ []) step.1.history is))
 
   pub rested : {P : Type 0} → outcomes.Rests w.receiver (number l) put → P
   rested (WasOver here) = absurd (both_ways (is_ended (state_at w.receiver l)) lives (ap is_ended here))
-  rested (WasStray sound stray) = absurd (both_ways (is_stray (row_at w.receiver (number l) put)) (no_stray w.receiver l (pair_at w l).recv put hands belongs) stray)
+  rested (WasStray sound stray) =
+      absurd (both_ways (is_stray (row_at w.receiver (number l) put)) (no_stray w.receiver l (pair_at w l).recv put hands belongs) stray)
   rested (WasSettled sound here given answer) = hands_not inputs.Starved given refl (λ b. b)
-  rested (WasNoBlock bytes serves given none) = absurd (subst (λ (o : Option Block). HasLeft o (lane_at w.receiver l).left) none (recv_fares w l states.TakeBlock c within serves.here).1)
+  rested (WasNoBlock bytes serves given none) =
+      absurd (subst (λ (o : Option Block). HasLeft o (lane_at w.receiver l).left) none (recv_fares w l states.TakeBlock c within serves.here).1)
 
   -- ---- a lane that asks for the end
 
@@ -214,7 +225,9 @@ module _ (w : PlainWorld) (l : ℕ) (c : Conversation w) (within : l < length w.
 
   concludes : (t : PlainReceiver) → outcomes.Concludes w.receiver (number l) put t → Sees (says_done t (number l))
   concludes t (WasFinished u idles come) = Asks (point u idles) (inr (inl come))
-  concludes t (IsFinished u fin none) = Ends u (sound_at u fin.idles) (point u fin.idles) (many u fin.idles) fin.first fin.ready (ap (λ (g : List RecvEvent). g ++ events.Finish ∷ []) (logged_history u u.unlogged))
+  concludes t (IsFinished u fin none) =
+      Ends u (sound_at u fin.idles) (point u fin.idles) (many u fin.idles) fin.first fin.ready
+      (ap (λ (g : List RecvEvent). g ++ events.Finish ∷ []) (logged_history u u.unlogged))
 
   -- ---- a lane that has no connection
 
@@ -266,13 +279,15 @@ module _ (w : PlainWorld) (l : ℕ) (c : Conversation w) (within : l < length w.
         past : past_of (g ++ events.Close (number l) ∷ []) l ≡ record (past_of g l) { is_closed = true }
         past = past_of-append g (events.Close (number l) ∷ []) l ∙ rw (eq-eqb l l refl) refl
 
-  given_so : (t : PlainReceiver) (come : Bool) → has_finish t ≡ come → Off w.receiver.history t.history l false → Sees (acts.Stop, goes (noted t (given_up (number l) come ∷ [])) l states.Ended)
+  given_so : (t : PlainReceiver) (come : Bool) → has_finish t ≡ come → Off w.receiver.history t.history l false
+      → Sees (acts.Stop, goes (noted t (given_up (number l) come ∷ [])) l states.Ended)
   given_so t true is o = Drops (quits t.history o)
   given_so t false is o = Closes (sym o.finish ∙ is) (closes t.history o)
 
   -- ---- the others
 
-  failing : (t : PlainReceiver) (answer : EndAnswer) (mute : Bool) → outcomes.Fails w.receiver (number l) put t answer mute → Sees (came_to w.receiver (number l) (Failed t answer mute))
+  failing : (t : PlainReceiver) (answer : EndAnswer) (mute : Bool) → outcomes.Fails w.receiver (number l) put t answer mute
+      → Sees (came_to w.receiver (number l) (Failed t answer mute))
   failing t answer mute (OfMemory m going given here is) = hands_not inputs.Starved given refl (λ b. b)
   failing t answer mute (OfSender st code serves reads given) = quietly _ (events.Abort (number l) code) refl refl
   failing t answer mute (OfPeer st kind serves reads mistake) = quietly _ (events.Peer (number l) kind) refl refl
@@ -287,7 +302,8 @@ module _ (w : PlainWorld) (l : ℕ) (c : Conversation w) (within : l < length w.
   reads_on t (ByChunks serves given) = same _ refl
   reads_on t (ByMarks serves given) = same _ refl
   reads_on t (ByLanding b lands few) = quietly _ (events.Land (number l)) refl refl
-  reads_on t (ByLogging b lands full) = quietly _ (events.Land (number l)) refl (logged_history (landed_by w.receiver (number l) b) (landed_by w.receiver (number l) b).unlogged)
+  reads_on t (ByLogging b lands full) =
+      quietly _ (events.Land (number l)) refl (logged_history (landed_by w.receiver (number l) b) (landed_by w.receiver (number l) b).unlogged)
 
   begins_so : (t : PlainReceiver) (b : Block) (left : ℕ) → t.history ≡ w.receiver.history → Sees (begins_by t (number l) b left)
   begins_so t b zero is =
@@ -307,7 +323,8 @@ module _ (w : PlainWorld) (l : ℕ) (c : Conversation w) (within : l < length w.
   meets_so s false true = quietly _ (events.Met (number l) s) refl refl
   meets_so s false false = quietly _ (events.Met (number l) s) refl refl
 
-  sizes_so : (files bytes : ℕ) (known : Bool) → Sees (reads (with_lane (sized_by w.receiver (number l) files bytes known) l record (lane_at w.receiver l) { is_sized = true }))
+  sizes_so : (files bytes : ℕ) (known : Bool)
+      → Sees (reads (with_lane (sized_by w.receiver (number l) files bytes known) l record (lane_at w.receiver l) { is_sized = true }))
   sizes_so files bytes true = same _ refl
   sizes_so files bytes false = quietly _ (events.Sized (number l) files bytes) refl refl
 

@@ -40,7 +40,8 @@ use Rattle.wdt_pact.proofs.RecvSeen.{goes_on, hands_not, rested}
 abbrev pub stands_behind : ℕ → Step → Stance
 stands_behind l step = recv_stance (lane_at step.1 l) (past_at step.1 l).is_idle (past_at step.1 l).is_acked (RecvDoes step.0)
 
-module _ (w : PlainWorld) (l : ℕ) (c : Conversation w) (within : l < length w.pairs) (put : Put) (hands : Hands (pair_at w l).recv put) (belongs : RecvBelongsAt w l) where
+module _ (w : PlainWorld) (l : ℕ) (c : Conversation w) (within : l < length w.pairs) (put : Put) (hands : Hands (pair_at w l).recv put)
+    (belongs : RecvBelongsAt w l) where
   abbrev Spoke : Step → Type 0
   Spoke step = IsTalking (stands_behind l step) → IsTalking (receives_at w l)
 
@@ -52,12 +53,15 @@ module _ (w : PlainWorld) (l : ℕ) (c : Conversation w) (within : l < length w.
   voiced : is_mute (row_at w.receiver (number l) put) ≡ false → IsTalking (receives_at w l)
   voiced voice = let q = voice_talks w.receiver l (pair_at w l).recv put hands belongs (c.lanes l within).heard_down voice in subst IsTalking (sym q.1) tt
 
-  by_row : (input : RecvIn) (st : RecvState) (sized : Bool) → put ≡ Given input → state_at w.receiver l ≡ st → (lane_at w.receiver l).is_sized ≡ sized → is_mute (row_of sized st input) ≡ false → IsTalking (receives_at w l)
+  by_row : (input : RecvIn) (st : RecvState) (sized : Bool) → put ≡ Given input → state_at w.receiver l ≡ st → (lane_at w.receiver l).is_sized ≡ sized
+      → is_mute (row_of sized st input) ≡ false → IsTalking (receives_at w l)
   by_row input st sized given here is voice =
-      voiced (ap (λ (p : Put). is_mute (row_at w.receiver (number l) p)) given ∙ (ap (λ (x : RecvState). is_mute (row_of (lane_at w.receiver l).is_sized x input)) here ∙ (ap (λ (x : Bool). is_mute (row_of x st input)) is ∙ voice)))
+      voiced
+      (ap (λ (p : Put). is_mute (row_at w.receiver (number l) p)) given ∙ (ap (λ (x : RecvState). is_mute (row_of (lane_at w.receiver l).is_sized x input)) here ∙ (ap (λ (x : Bool). is_mute (row_of x st input)) is ∙ voice)))
 
   by_piece : (bytes : List ℕ) → put ≡ Bytes bytes → state_at w.receiver l ≡ states.TakeBlock → IsTalking (receives_at w l)
-  by_piece bytes given here = voiced (ap (λ (p : Put). is_mute (row_at w.receiver (number l) p)) given ∙ ap (λ (x : RecvState). is_mute (piece_row x bytes)) here)
+  by_piece bytes given here =
+      voiced (ap (λ (p : Put). is_mute (row_at w.receiver (number l) p)) given ∙ ap (λ (x : RecvState). is_mute (piece_row x bytes)) here)
 
   idled : (t : PlainReceiver) → outcomes.Idles w.receiver (number l) put t → IsTalking (receives_at w l)
   idled t (ByDone serves sized given is) = by_row (inputs.Got frames.Done) states.ReadNextCmd true given serves.here sized refl
@@ -86,15 +90,20 @@ module _ (w : PlainWorld) (l : ℕ) (c : Conversation w) (within : l < length w.
 
   -- ---- it talks no more
 
-  stance_put : (t : PlainReceiver) (st : RecvState) (act : RecvAct) → l < length t.lanes → stands_behind l (act, goes t l st) ≡ recv_stance (record (lane_at t l) { state = st }) (past_at t l).is_idle (past_at t l).is_acked (RecvDoes act)
-  stance_put t st act small = ap (λ (x : RecvLane). recv_stance x (past_at t l).is_idle (past_at t l).is_acked (RecvDoes act)) (ap lane_or_ended (get_set t.lanes l (record (lane_at t l) { state = st }) small))
+  stance_put : (t : PlainReceiver) (st : RecvState) (act : RecvAct) → l < length t.lanes
+      → stands_behind l (act, goes t l st) ≡ recv_stance (record (lane_at t l) { state = st }) (past_at t l).is_idle (past_at t l).is_acked (RecvDoes act)
+  stance_put t st act small =
+      ap (λ (x : RecvLane). recv_stance x (past_at t l).is_idle (past_at t l).is_acked (RecvDoes act))
+      (ap lane_or_ended (get_set t.lanes l (record (lane_at t l) { state = st }) small))
 
-  acked_behind : (t : PlainReceiver) (es : List RecvEvent) → t.history ≡ w.receiver.history ++ es → (past_from l (past_at w.receiver l) es).is_acked ≡ (past_at w.receiver l).is_acked → (past_at t l).is_acked ≡ false
+  acked_behind : (t : PlainReceiver) (es : List RecvEvent) → t.history ≡ w.receiver.history ++ es
+      → (past_from l (past_at w.receiver l) es).is_acked ≡ (past_at w.receiver l).is_acked → (past_at t l).is_acked ≡ false
   acked_behind t es is same = ap (λ (g : List RecvEvent). (past_of g l).is_acked) is ∙ (ap (λ (p : RecvPast). p.is_acked) (past_of-append w.receiver.history es l) ∙ (same ∙ (goes_on w l c within put hands belongs).1.acked))
 
   ends_quiet : (t : PlainReceiver) → t.lanes ≡ w.receiver.lanes → (past_at t l).is_acked ≡ false → Spoke (acts.Stop, goes t l states.Ended)
   ends_quiet t many none talks =
-      absurd (subst IsTalking (stance_put t states.Ended acts.Stop (subst (λ (xs : List RecvLane). l < length xs) (sym many) below) ∙ ap (λ (b : Bool). stand false (over_if b)) none) talks)
+      absurd
+      (subst IsTalking (stance_put t states.Ended acts.Stop (subst (λ (xs : List RecvLane). l < length xs) (sym many) below) ∙ ap (λ (b : Bool). stand false (over_if b)) none) talks)
 
   warns_quiet : (t : PlainReceiver) (f : Frame) → l < length t.lanes → Spoke (acts.Write f, goes t l states.SendAbort)
   warns_quiet t f small talks = absurd (subst IsTalking (stance_put t states.SendAbort (acts.Write f) small) talks)
@@ -102,21 +111,28 @@ module _ (w : PlainWorld) (l : ℕ) (c : Conversation w) (within : l < length w.
   listens_quiet : (t : PlainReceiver) → l < length t.lanes → Spoke (acts.Accept, goes t l states.Listen)
   listens_quiet t small talks = absurd (subst IsTalking (stance_put t states.Listen acts.Accept small) talks)
 
-  failing : (t : PlainReceiver) (answer : EndAnswer) (mute : Bool) → outcomes.Fails w.receiver (number l) put t answer mute → Spoke (came_to w.receiver (number l) (Failed t answer mute))
+  failing : (t : PlainReceiver) (answer : EndAnswer) (mute : Bool) → outcomes.Fails w.receiver (number l) put t answer mute
+      → Spoke (came_to w.receiver (number l) (Failed t answer mute))
   failing t answer mute (OfMemory m going given here is) = hands_not w l c within put hands belongs inputs.Starved given refl (λ b. b)
   failing t answer mute (OfSender st code serves reads given) =
-      ends_quiet (failed (noted w.receiver (events.Abort (number l) code ∷ [])) (answers.Aborted code)) refl (acked_behind (failed (noted w.receiver (events.Abort (number l) code ∷ [])) (answers.Aborted code)) (events.Abort (number l) code ∷ []) refl refl)
-  failing t answer mute (OfPeer st kind serves reads mistake) = warns_quiet (failed (noted w.receiver (events.Peer (number l) kind ∷ [])) (answers.Peer kind)) (frames.Abort 5) below
+      ends_quiet (failed (noted w.receiver (events.Abort (number l) code ∷ [])) (answers.Aborted code)) refl
+      (acked_behind (failed (noted w.receiver (events.Abort (number l) code ∷ [])) (answers.Aborted code)) (events.Abort (number l) code ∷ []) refl refl)
+  failing t answer mute (OfPeer st kind serves reads mistake) =
+      warns_quiet (failed (noted w.receiver (events.Peer (number l) kind ∷ [])) (answers.Peer kind)) (frames.Abort 5) below
   failing t answer mute (OfShort u kind finishes short) = λ talks. idled u finishes.idles
   failing t answer mute (OfMake h serves sized given fault new) = warns_quiet (failed w.receiver answers.Disk) (frames.Abort 3) below
   failing t answer mute (OfWrite bytes b serves given begun) = warns_quiet (failed w.receiver answers.Disk) (frames.Abort 3) below
   failing t answer mute (OfLog b lands full) = λ talks. by_piece lands.bytes lands.handed lands.serves.here
   failing t answer mute (OfFinish u finishes) = λ talks. idled u finishes.idles
 
-  given_so : (t : PlainReceiver) (come : Bool) (es : List RecvEvent) → l < length t.lanes → t.history ≡ w.receiver.history ++ es → (past_from l (past_at w.receiver l) es).is_acked ≡ (past_at w.receiver l).is_acked → Spoke (acts.Stop, goes (noted t (given_up (number l) come ∷ [])) l states.Ended)
+  given_so : (t : PlainReceiver) (come : Bool) (es : List RecvEvent) → l < length t.lanes → t.history ≡ w.receiver.history ++ es
+      → (past_from l (past_at w.receiver l) es).is_acked ≡ (past_at w.receiver l).is_acked
+      → Spoke (acts.Stop, goes (noted t (given_up (number l) come ∷ [])) l states.Ended)
   given_so t come es small is same = go come where
     quiet : (e : RecvEvent) → (past_at (noted t (e ∷ [])) l).is_acked ≡ (past_at t l).is_acked → Spoke (acts.Stop, goes (noted t (e ∷ [])) l states.Ended)
-    quiet e still talks = absurd (subst IsTalking (stance_put (noted t (e ∷ [])) states.Ended acts.Stop small ∙ ap (λ (b : Bool). stand false (over_if b)) (still ∙ acked_behind t es is same)) talks)
+    quiet e still talks =
+        absurd
+        (subst IsTalking (stance_put (noted t (e ∷ [])) states.Ended acts.Stop small ∙ ap (λ (b : Bool). stand false (over_if b)) (still ∙ acked_behind t es is same)) talks)
 
     go : (b : Bool) → Spoke (acts.Stop, goes (noted t (given_up (number l) b ∷ [])) l states.Ended)
     go true = quiet (events.Quit (number l)) (ap (λ (p : RecvPast). p.is_acked) (past_of-append t.history (events.Quit (number l) ∷ []) l))
@@ -125,7 +141,8 @@ module _ (w : PlainWorld) (l : ℕ) (c : Conversation w) (within : l < length w.
   small_set : (lane : RecvLane) → l < length (slice_set w.receiver.lanes l lane)
   small_set lane = subst (λ (n : ℕ). l < n) (sym (length-set w.receiver.lanes l lane)) below
 
-  wants : (t : PlainReceiver) (come : Bool) → outcomes.Listens w.receiver (number l) put t → Spoke (acts.Stop, goes (noted t (given_up (number l) come ∷ [])) l states.Ended)
+  wants : (t : PlainReceiver) (come : Bool) → outcomes.Listens w.receiver (number l) put t
+      → Spoke (acts.Stop, goes (noted t (given_up (number l) come ∷ [])) l states.Ended)
   wants t come (AtFirst serves given) = hands_not w l c within put hands belongs inputs.Start given refl (λ b. b)
   wants t come (ByNoLink serves given) = given_so (noted w.receiver (events.NoLink (number l) ∷ [])) come (events.NoLink (number l) ∷ []) below refl refl
   wants t come (ByLoss st serves linked given) = given_so (drops_lane w.receiver (number l)) come (events.Dropped (number l) ∷ []) (small_set _) refl refl

@@ -34,7 +34,9 @@ some_not_none x e = cc
 -- ---- which of the two last
 
 -- by how the sender stands
-pub by_talk : (known : Type 0) (q : ℕ) (p : Pair) (ss : Stance) → ((p.newest ≡ None) → IsTalking ss → marked_in q (send_in_hand p.send ++ up_sent p.taken) ≡ true) → has_done (in_hand p.recv ++ down_sent p.taken) ≡ false → TellsOn known q p ss
+pub by_talk : (known : Type 0) (q : ℕ) (p : Pair) (ss : Stance)
+    → ((p.newest ≡ None) → IsTalking ss → marked_in q (send_in_hand p.send ++ up_sent p.taken) ≡ true)
+    → has_done (in_hand p.recv ++ down_sent p.taken) ≡ false → TellsOn known q p ss
 by_talk known q p ss marks none = go p.newest refl ss refl where
   go : (o : Option Link) → p.newest ≡ o → (st : Stance) → ss ≡ st → TellsOn known q p ss
   go None top (Talks s) is = let t : IsTalking ss = subst IsTalking (sym is) tt in inr (inr (inl (top, t, marks top t)))
@@ -43,12 +45,14 @@ by_talk known q p ss marks none = go p.newest refl ss refl where
   go (Some k) top st is = inr (inr (inr (λ n t. some_not_none k (sym top ∙ n), none)))
 
 -- a sender that says nothing there keeps to it
-pub hushed : (known : Type 0) (q : ℕ) (p o : Pair) (ss st : Stance) → ((p.newest ≡ None) → IsTalking ss → ⊥) → ((o.newest ≡ None) → IsTalking st → ⊥) → o.recv ≡ p.recv → o.taken ≡ p.taken → TellsOn known q p ss → TellsOn known q o st
+pub hushed : (known : Type 0) (q : ℕ) (p o : Pair) (ss st : Stance) → ((p.newest ≡ None) → IsTalking ss → ⊥) → ((o.newest ≡ None) → IsTalking st → ⊥)
+    → o.recv ≡ p.recv → o.taken ≡ p.taken → TellsOn known q p ss → TellsOn known q o st
 hushed known q p o ss st before after recv taken (inl x) = inl x
 hushed known q p o ss st before after recv taken (inr (inl x)) = inr (inl (ap (λ (h : RecvHold). marked_in q (to_say h)) recv ∙ x))
 hushed known q p o ss st before after recv taken (inr (inr (inl x))) = absurd (before x.0 x.1)
 hushed known q p o ss st before after recv taken (inr (inr (inr x))) =
-    inr (inr (inr (after, ap (λ (h : RecvHold). has_done (in_hand h ++ down_sent o.taken)) recv ∙ (ap (λ (k : Option Link). has_done (in_hand p.recv ++ down_sent k)) taken ∙ x.1))))
+    inr
+    (inr (inr (after, ap (λ (h : RecvHold). has_done (in_hand h ++ down_sent o.taken)) recv ∙ (ap (λ (k : Option Link). has_done (in_hand p.recv ++ down_sent k)) taken ∙ x.1))))
 
 -- ---- an act of the sender's lane
 
@@ -61,17 +65,22 @@ module _ (lane : SendLane) (acked : Bool) (known : Type 0) (q : ℕ) (rh : RecvH
 
   -- where a newer connection waits, nothing of it changes
   newer : (sh new : SendHold) (taken : Option Link) (k j : Link) → Tells (pair sh taken (Some k)) → Tells (pair new taken (Some j))
-  newer sh new taken k j t = hushed known q (pair sh taken (Some k)) (pair new taken (Some j)) (send_stance lane acked sh) (send_stance lane acked new) (λ n. some_not_none k n) (λ n. some_not_none j n) refl refl t
+  newer sh new taken k j t =
+      hushed known q (pair sh taken (Some k)) (pair new taken (Some j)) (send_stance lane acked sh) (send_stance lane acked new) (λ n. some_not_none k n)
+      (λ n. some_not_none j n) refl refl t
 
   -- what an act of the sender takes for granted of the connection on which it says or reads something
   pub record Grants (act : SendAct) (k : Link) : Type 0 where
     -- where it talks and has the word, no marks are on their way
     pub mute : IsTalking (send_stance lane acked (SendDoes act)) → marked_in q k.up.sent ≡ true → ⊥
     -- where it doesn't talk, it won't behind the act, and doesn't say its last word
-    pub silent : (IsTalking (send_stance lane acked (SendDoes act)) → ⊥) → ((b : Bool) → IsTalking (send_stance lane acked (SendHas (wrote_or_lost b))) → ⊥) × ((b : Bool) → IsTalking (send_stance lane acked (SendHas (inputs.SourceLost b))) → ⊥) × (has_done (written_by act) ≡ false)
+    pub silent : (IsTalking (send_stance lane acked (SendDoes act)) → ⊥)
+        → ((b : Bool) → IsTalking (send_stance lane acked (SendHas (wrote_or_lost b))) → ⊥) × ((b : Bool) → IsTalking (send_stance lane acked (SendHas (inputs.SourceLost b))) → ⊥) × (has_done (written_by act) ≡ false)
 
   -- messages are on their way behind an act
-  says : (act : SendAct) (ms : List Message) (new : SendHold) (k : Link) → ((IsTalking (send_stance lane acked (SendDoes act)) → ⊥) → (IsTalking (send_stance lane acked new) → ⊥) × (has_done ms ≡ false)) → (IsTalking (send_stance lane acked (SendDoes act)) → marked_in q k.up.sent ≡ true → ⊥)
+  says : (act : SendAct) (ms : List Message) (new : SendHold) (k : Link)
+      → ((IsTalking (send_stance lane acked (SendDoes act)) → ⊥) → (IsTalking (send_stance lane acked new) → ⊥) × (has_done ms ≡ false))
+      → (IsTalking (send_stance lane acked (SendDoes act)) → marked_in q k.up.sent ≡ true → ⊥)
       → Tells (pair (SendDoes act) (Some k) None) → Tells (pair new (Some record k { down = with_sent k.down ms }) None)
   says act ms new k silent mute (inl x) = inl x
   says act ms new k silent mute (inr (inl x)) = inr (inl x)
@@ -83,18 +92,22 @@ module _ (lane : SendLane) (acked : Bool) (known : Type 0) (q : ℕ) (rh : RecvH
         lost true b d e f g = cc
         lost false b d e f g = e ∙ or_from b d f g
 
-  pub writes_tell : (act : SendAct) (ms : List Message) (taken newest : Option Link) → ((k : Link) → taken ≡ Some k → newest ≡ None → Grants act k) → has_done ms ≡ has_done (written_by act)
+  pub writes_tell : (act : SendAct) (ms : List Message) (taken newest : Option Link) → ((k : Link) → taken ≡ Some k → newest ≡ None → Grants act k)
+      → has_done ms ≡ has_done (written_by act)
       → Tells (pair (SendDoes act) taken newest) → Tells (send_writes (pair (SendDoes act) taken newest) ms (top_by newest taken))
-  writes_tell act ms taken (Some k) grants same t = newer (SendDoes act) (SendHas (wrote_or_lost (not (is_cut k.down) && not (recv_stops rh)))) taken k record k { down = with_sent k.down ms } t
+  writes_tell act ms taken (Some k) grants same t =
+      newer (SendDoes act) (SendHas (wrote_or_lost (not (is_cut k.down) && not (recv_stops rh)))) taken k record k { down = with_sent k.down ms } t
   writes_tell act ms None None grants same t = t
   writes_tell act ms (Some k) None grants same t =
       let g = grants k refl refl in
       let b : Bool = not (is_cut k.down) && not (recv_stops rh) in
       says act ms (SendHas (wrote_or_lost b)) k (λ n. let f = g.silent n in (f.0 b, same ∙ f.2)) g.mute t
 
-  loses_tell : (act : SendAct) (ms : List Message) (unwritten : Bool) (taken newest : Option Link) → ((k : Link) → taken ≡ Some k → newest ≡ None → Grants act k) → has_done ms ≡ has_done (written_by act)
+  loses_tell : (act : SendAct) (ms : List Message) (unwritten : Bool) (taken newest : Option Link)
+      → ((k : Link) → taken ≡ Some k → newest ≡ None → Grants act k) → has_done ms ≡ has_done (written_by act)
       → Tells (pair (SendDoes act) taken newest) → Tells (send_loses (pair (SendDoes act) taken newest) (top_by newest taken) ms unwritten)
-  loses_tell act ms unwritten taken (Some k) grants same t = newer (SendDoes act) (SendHas (inputs.SourceLost unwritten)) taken k record k { down = with_sent k.down ms } t
+  loses_tell act ms unwritten taken (Some k) grants same t =
+      newer (SendDoes act) (SendHas (inputs.SourceLost unwritten)) taken k record k { down = with_sent k.down ms } t
   loses_tell act ms unwritten None None grants same t = t
   loses_tell act ms unwritten (Some k) None grants same t =
       let g = grants k refl refl in says act ms (SendHas (inputs.SourceLost unwritten)) k (λ n. let f = g.silent n in (f.1 unwritten, same ∙ f.2)) g.mute t
@@ -106,21 +119,32 @@ module _ (lane : SendLane) (acked : Bool) (known : Type 0) (q : ℕ) (rh : RecvH
   pub whole_done : (h : Header) → has_done (written_by (acts.SendBlock h)) ≡ false
   whole_done h = no_done (pieces_of h.length) (are_pieces h.length (pieces_in h.length))
 
-  pub sends_tell : (h : Header) (lost : Option ℕ) (taken newest : Option Link) → ((k : Link) → taken ≡ Some k → newest ≡ None → Grants (acts.SendBlock h) k) → Tells (pair (SendDoes (acts.SendBlock h)) taken newest) → Tells (send_sends (pair (SendDoes (acts.SendBlock h)) taken newest) h lost)
+  pub sends_tell : (h : Header) (lost : Option ℕ) (taken newest : Option Link) → ((k : Link) → taken ≡ Some k → newest ≡ None → Grants (acts.SendBlock h) k)
+      → Tells (pair (SendDoes (acts.SendBlock h)) taken newest) → Tells (send_sends (pair (SendDoes (acts.SendBlock h)) taken newest) h lost)
   sends_tell h None taken newest grants t = writes_tell (acts.SendBlock h) (written_by (acts.SendBlock h)) taken newest grants refl t
   sends_tell h (Some zero) taken newest grants t =
-      if_has Tells (nat_le (pieces_in h.length) 0) (send_writes (pair (SendDoes (acts.SendBlock h)) taken newest) (written_by (acts.SendBlock h)) (top_by newest taken)) (send_loses (pair (SendDoes (acts.SendBlock h)) taken newest) (top_by newest taken) [] true)
-      (writes_tell (acts.SendBlock h) (written_by (acts.SendBlock h)) taken newest grants refl t) (loses_tell (acts.SendBlock h) [] true taken newest grants (sym (whole_done h)) t)
+      if_has Tells (nat_le (pieces_in h.length) 0)
+      (send_writes (pair (SendDoes (acts.SendBlock h)) taken newest) (written_by (acts.SendBlock h)) (top_by newest taken))
+      (send_loses (pair (SendDoes (acts.SendBlock h)) taken newest) (top_by newest taken) [] true)
+      (writes_tell (acts.SendBlock h) (written_by (acts.SendBlock h)) taken newest grants refl t)
+      (loses_tell (acts.SendBlock h) [] true taken newest grants (sym (whole_done h)) t)
   sends_tell h (Some (suc k)) taken newest grants t =
-      if_has Tells (nat_le (pieces_in h.length) (suc k)) (send_writes (pair (SendDoes (acts.SendBlock h)) taken newest) (written_by (acts.SendBlock h)) (top_by newest taken)) (send_loses (pair (SendDoes (acts.SendBlock h)) taken newest) (top_by newest taken) (take (suc (suc k)) (written_by (acts.SendBlock h))) false)
-      (writes_tell (acts.SendBlock h) (written_by (acts.SendBlock h)) taken newest grants refl t) (loses_tell (acts.SendBlock h) (take (suc (suc k)) (written_by (acts.SendBlock h))) false taken newest grants (block_done h (suc k) ∙ sym (whole_done h)) t)
+      if_has Tells (nat_le (pieces_in h.length) (suc k))
+      (send_writes (pair (SendDoes (acts.SendBlock h)) taken newest) (written_by (acts.SendBlock h)) (top_by newest taken))
+      (send_loses (pair (SendDoes (acts.SendBlock h)) taken newest) (top_by newest taken) (take (suc (suc k)) (written_by (acts.SendBlock h))) false)
+      (writes_tell (acts.SendBlock h) (written_by (acts.SendBlock h)) taken newest grants refl t)
+      (loses_tell (acts.SendBlock h) (take (suc (suc k)) (written_by (acts.SendBlock h))) false taken newest grants (block_done h (suc k) ∙ sym (whole_done h)) t)
 
   -- a reader: marks that it takes are in its hand
-  pub reads_tell : (taken newest : Option Link) → IsTalking (send_stance lane acked (SendDoes acts.Read)) → (newest ≡ None → marked_in q (up_sent taken) ≡ true → has_done (in_hand rh ++ down_sent taken) ≡ false) → Tells (pair (SendDoes acts.Read) taken newest) → Tells (send_reads (pair (SendDoes acts.Read) taken newest) (top_by newest taken))
+  pub reads_tell : (taken newest : Option Link) → IsTalking (send_stance lane acked (SendDoes acts.Read))
+      → (newest ≡ None → marked_in q (up_sent taken) ≡ true → has_done (in_hand rh ++ down_sent taken) ≡ false)
+      → Tells (pair (SendDoes acts.Read) taken newest) → Tells (send_reads (pair (SendDoes acts.Read) taken newest) (top_by newest taken))
   reads_tell taken (Some k) talks none t = go (front size_up k.up) where
     go : (o : Option (Frame × Way Frame)) → Tells (send_reads_by (pair (SendDoes acts.Read) taken (Some k)) k o)
     go (Some x) = newer (SendDoes acts.Read) (SendHas (inputs.Got x.0)) taken k record k { up = x.1 } t
-    go None = if_has Tells (is_cut k.up || recv_stops rh) (pair (SendHas inputs.Lost) taken (Some k)) (pair (SendDoes acts.Read) taken (Some k)) (newer (SendDoes acts.Read) (SendHas inputs.Lost) taken k k t) t
+    go None =
+        if_has Tells (is_cut k.up || recv_stops rh) (pair (SendHas inputs.Lost) taken (Some k)) (pair (SendDoes acts.Read) taken (Some k))
+        (newer (SendDoes acts.Read) (SendHas inputs.Lost) taken k k t) t
   reads_tell None None talks none t = t
   reads_tell (Some k) None talks none t = go (front size_up k.up) refl where
     lost : Tells (pair (SendDoes acts.Read) (Some k) None) → Tells (pair (SendHas inputs.Lost) (Some k) None)
@@ -129,10 +153,13 @@ module _ (lane : SendLane) (acked : Bool) (known : Type 0) (q : ℕ) (rh : RecvH
     lost (inr (inr (inl x))) = inr (inr (inr (λ n y. y, none refl x.2)))
     lost (inr (inr (inr x))) = absurd (x.0 refl talks)
 
-    got : (f : Frame) (rest : Way Frame) → k.up.sent ≡ f ∷ rest.sent → Tells (pair (SendDoes acts.Read) (Some k) None) → Tells (pair (SendHas (inputs.Got f)) (Some record k { up = rest }) None)
+    got : (f : Frame) (rest : Way Frame) → k.up.sent ≡ f ∷ rest.sent → Tells (pair (SendDoes acts.Read) (Some k) None)
+        → Tells (pair (SendHas (inputs.Got f)) (Some record k { up = rest }) None)
     got f rest is (inl x) = inl x
     got f rest is (inr (inl x)) = inr (inl x)
-    got f rest is (inr (inr (inl x))) = by_talk known q (pair (SendHas (inputs.Got f)) (Some record k { up = rest }) None) (send_stance lane acked (SendHas (inputs.Got f))) (λ n y. ap (marked_in q) (sym is) ∙ x.2) (none refl x.2)
+    got f rest is (inr (inr (inl x))) =
+        by_talk known q (pair (SendHas (inputs.Got f)) (Some record k { up = rest }) None) (send_stance lane acked (SendHas (inputs.Got f)))
+        (λ n y. ap (marked_in q) (sym is) ∙ x.2) (none refl x.2)
     got f rest is (inr (inr (inr x))) = absurd (x.0 refl talks)
 
     go : (o : Option (Frame × Way Frame)) → front size_up k.up ≡ o → Tells (send_reads_by (pair (SendDoes acts.Read) (Some k) None) k o)
@@ -140,12 +167,18 @@ module _ (lane : SendLane) (acked : Bool) (known : Type 0) (q : ℕ) (rh : RecvH
     go None is = if_has Tells (is_cut k.up || recv_stops rh) (pair (SendHas inputs.Lost) (Some k) None) (pair (SendDoes acts.Read) (Some k) None) (lost t) t
 
   -- a lane that dials says nothing
-  pub dials_tell : (act : SendAct) (taken newest : Option Link) (n : ℕ) (stopped : Bool) → (IsTalking (send_stance lane acked (SendDoes act)) → ⊥) → (IsTalking (send_stance lane acked (SendHas inputs.NoLink)) → ⊥)
+  pub dials_tell : (act : SendAct) (taken newest : Option Link) (n : ℕ) (stopped : Bool) → (IsTalking (send_stance lane acked (SendDoes act)) → ⊥)
+      → (IsTalking (send_stance lane acked (SendHas inputs.NoLink)) → ⊥)
       → Tells (pair (SendDoes act) taken newest) → Tells (send_dials (pair (SendDoes act) taken newest) n stopped)
-  dials_tell act taken newest (suc n) stopped silent after t = hushed known q (pair (SendDoes act) taken newest) (record (pair (SendHas inputs.NoLink) taken newest) { denies = n }) (send_stance lane acked (SendDoes act)) (send_stance lane acked (SendHas inputs.NoLink)) (λ x. silent) (λ x. after) refl refl t
-  dials_tell act taken newest zero true silent after t = hushed known q (pair (SendDoes act) taken newest) (pair (SendHas inputs.NoLink) taken newest) (send_stance lane acked (SendDoes act)) (send_stance lane acked (SendHas inputs.NoLink)) (λ x. silent) (λ x. after) refl refl t
+  dials_tell act taken newest (suc n) stopped silent after t =
+      hushed known q (pair (SendDoes act) taken newest) (record (pair (SendHas inputs.NoLink) taken newest) { denies = n })
+      (send_stance lane acked (SendDoes act)) (send_stance lane acked (SendHas inputs.NoLink)) (λ x. silent) (λ x. after) refl refl t
+  dials_tell act taken newest zero true silent after t =
+      hushed known q (pair (SendDoes act) taken newest) (pair (SendHas inputs.NoLink) taken newest) (send_stance lane acked (SendDoes act))
+      (send_stance lane acked (SendHas inputs.NoLink)) (λ x. silent) (λ x. after) refl refl t
   dials_tell act taken newest zero false silent after t =
-      hushed known q (pair (SendDoes act) taken newest) (record (pair (SendHas inputs.Linked) taken (Some new_link)) { between = between ++ waits newest }) (send_stance lane acked (SendDoes act)) (send_stance lane acked (SendHas inputs.Linked)) (λ x. silent) (λ x. some_not_none new_link x) refl refl t
+      hushed known q (pair (SendDoes act) taken newest) (record (pair (SendHas inputs.Linked) taken (Some new_link)) { between = between ++ waits newest })
+      (send_stance lane acked (SendDoes act)) (send_stance lane acked (SendHas inputs.Linked)) (λ x. silent) (λ x. some_not_none new_link x) refl refl t
 
 -- ---- an input that the sender's lane hands in
 
@@ -176,7 +209,8 @@ newest_turned (inputs.Got f) b newest e = some_noted b newest e
 newest_turned input b newest e = e
 
 -- marks that it handed in it knows, or it talks no more
-pub turn_tells : (before after : Type 0) (q : ℕ) (p : Pair) (input : SendIn) (b : Bool) (act : SendAct) (ss st : Stance) → p.send ≡ SendHas input → (before → after) → (marked_in q (send_in_hand (SendHas input)) ≡ true → after ⊎ (IsTalking st → ⊥)) → (IsTalking st → IsTalking ss)
+pub turn_tells : (before after : Type 0) (q : ℕ) (p : Pair) (input : SendIn) (b : Bool) (act : SendAct) (ss st : Stance) → p.send ≡ SendHas input
+    → (before → after) → (marked_in q (send_in_hand (SendHas input)) ≡ true → after ⊎ (IsTalking st → ⊥)) → (IsTalking st → IsTalking ss)
     → (p.newest ≡ None → IsTalking ss → marked_in q (send_in_hand p.send ++ up_sent p.taken) ≡ true → has_done (in_hand p.recv ++ down_sent p.taken) ≡ false)
     → TellsOn before q p ss → TellsOn after q (send_takes p input b act) st
 turn_tells before after q p input b act ss st holds knows hand talks none (inl x) = inl (knows x)
@@ -189,4 +223,5 @@ turn_tells before after q p input b act ss st holds knows hand talks none (inr (
   go (inl m) = elim (hand m) [ inl y ↦ inl y | inr y ↦ inr (inr (inr (λ n t. y t, down))) ]
   go (inr m) = by_talk after q (send_takes p input b act) st (λ n t. ap (marked_in q) (up_turned input b p.newest p.taken) ∙ m) down
 turn_tells before after q p input b act ss st holds knows hand talks none (inr (inr (inr x))) =
-    inr (inr (inr (λ n t. x.0 (newest_turned input b p.newest n) (talks t), ap (λ (ds : List Message). has_done (in_hand p.recv ++ ds)) (down_turned input b p.newest p.taken) ∙ x.1)))
+    inr
+    (inr (inr (λ n t. x.0 (newest_turned input b p.newest n) (talks t), ap (λ (ds : List Message). has_done (in_hand p.recv ++ ds)) (down_turned input b p.newest p.taken) ∙ x.1)))

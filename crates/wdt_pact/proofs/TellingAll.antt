@@ -86,7 +86,8 @@ done_behind hand ds e = go (has_done hand) (sym (has_done-append hand ds) ∙ e)
 -- a cut leaves what was written
 cut_tells : (known : Type 0) (q : ℕ) (ss : Stance) (sh : SendHold) (rh : RecvHold) (taken : Option Link) (between : List Link) (newest : Option Link) (denies refusals d u : ℕ)
     → TellsOn known q record { send = sh; recv = rh; taken = taken; between = between; newest = newest; denies = denies; refusals = refusals } ss
-    → TellsOn known q (cuts_by record { send = sh; recv = rh; taken = taken; between = between; newest = newest; denies = denies; refusals = refusals } d u (top_by newest taken)) ss
+    → TellsOn known q
+    (cuts_by record { send = sh; recv = rh; taken = taken; between = between; newest = newest; denies = denies; refusals = refusals } d u (top_by newest taken)) ss
 cut_tells known q ss sh rh taken between (Some k) denies refusals d u t =
     hushed known q record { send = sh; recv = rh; taken = taken; between = between; newest = Some k; denies = denies; refusals = refusals } record { send = sh; recv = rh; taken = taken; between = between; newest = Some (cut_link d u k); denies = denies; refusals = refusals } ss ss
     (λ n. some_not_none k n) (λ n. some_not_none (cut_link d u k) n) refl refl t
@@ -111,7 +112,8 @@ cuts_recv p d u (Some k) = refl
 -- the lane's part
 abbrev Part : PlainWorld → ℕ → Pair → Type 0
 Part w k p =
-    (q : ℕ) → IsTalking (recv_stance (recv.lane_at w.receiver k) (recv.past_at w.receiver k).is_idle (recv.past_at w.receiver k).is_acked p.recv) → has (telling w k) q ≡ true
+    (q : ℕ) → IsTalking (recv_stance (recv.lane_at w.receiver k) (recv.past_at w.receiver k).is_idle (recv.past_at w.receiver k).is_acked p.recv) → has
+    (telling w k) q ≡ true
     → TellsOn (is_closed w.sender q ≡ true) q p (send_stance (lane_at w.sender k) (past_at w.sender k).is_acked p.send)
 
 pair_tells : (w : PlainWorld) (l : ℕ) (p : Pair) → l < length w.pairs → Tellings w → Part w l p → Tellings (with_pair w l p)
@@ -120,7 +122,8 @@ pair_tells w l p within all own k q small =
 
 -- ---- a turn of the sender's lane
 
-module _ (stay : StayClosed) (touches : SenderTouches) (comes : SenderComes) (w : PlainWorld) (l : ℕ) (input : SendIn) (s : IsSound w) (f : Finishing w) (within : l < length w.pairs) (holds : (pair_at w l).send ≡ SendHas input) where
+module _ (stay : StayClosed) (touches : SenderTouches) (comes : SenderComes) (w : PlainWorld) (l : ℕ) (input : SendIn) (s : IsSound w) (f : Finishing w)
+    (within : l < length w.pairs) (holds : (pair_at w l).send ≡ SendHas input) where
   abbrev step : SendStep
   step = send_turn w.sender (number l) input
 
@@ -148,18 +151,21 @@ module _ (stay : StayClosed) (touches : SenderTouches) (comes : SenderComes) (w 
 
   abbrev Turned : ℕ → Pair → Type 0
   Turned k p =
-      (q : ℕ) → IsTalking (recv_stance (recv.lane_at w.receiver k) (recv.past_at w.receiver k).is_idle (recv.past_at w.receiver k).is_acked p.recv) → has (telling w k) q ≡ true
+      (q : ℕ) → IsTalking (recv_stance (recv.lane_at w.receiver k) (recv.past_at w.receiver k).is_idle (recv.past_at w.receiver k).is_acked p.recv) → has
+      (telling w k) q ≡ true
       → TellsOn (is_closed step.1 q ≡ true) q p (send_stance (lane_at step.1 k) (past_at step.1 k).is_acked p.send)
 
   own : Turned l after
   own q talks e =
       let r = phase_in (receives_at w l) talks in
-      turn_tells (is_closed w.sender q ≡ true) (is_closed step.1 q ≡ true) q (pair_at w l) input (past_at step.1 l).is_greeted step.0 (sends_at w l) (stands_behind l step) holds (closed_stays stay touches w.sender (number l) input q) (own_hand q) own_talks
+      turn_tells (is_closed w.sender q ≡ true) (is_closed step.1 q ≡ true) q (pair_at w l) input (past_at step.1 l).is_greeted step.0 (sends_at w l)
+      (stands_behind l step) holds (closed_stays stay touches w.sender (number l) input q) (own_hand q) own_talks
       (λ top t m. marked_none w l q s.talk within (lane_holds w l s within) r.0 r.1 top t m) (f.tellings l q within talks e)
 
   others : (i : ℕ) → i < length w.pairs → i ≢ l → Turned i (pair_at w i)
   others i b ne q talks e =
-      subst (λ (x : SendLane). TellsOn (is_closed step.1 q ≡ true) q (pair_at w i) (send_stance x (past_at step.1 i).is_acked (pair_at w i).send)) (sym ((touches w.sender (number l) input).others i ne))
+      subst (λ (x : SendLane). TellsOn (is_closed step.1 q ≡ true) q (pair_at w i) (send_stance x (past_at step.1 i).is_acked (pair_at w i).send))
+      (sym ((touches w.sender (number l) input).others i ne))
       (subst (λ (x : Bool). TellsOn (is_closed step.1 q ≡ true) q (pair_at w i) (send_stance (lane_at w.sender i) x (pair_at w i).send)) (sym (acked_beside i _ _ _ ((touches w.sender (number l) input).pasts i ne)))
       (tells_known (is_closed w.sender q ≡ true) (is_closed step.1 q ≡ true) q (pair_at w i) (sends_at w i) (closed_stays stay touches w.sender (number l) input q) (f.tellings i q b talks e)))
 
@@ -168,17 +174,20 @@ module _ (stay : StayClosed) (touches : SenderTouches) (comes : SenderComes) (w 
 
 -- ---- a turn of the receiver's lane
 
-module _ (w : PlainWorld) (l : ℕ) (s : IsSound w) (f : Finishing w) (within : l < length w.pairs) (put : Put) (hands : Hands (pair_at w l).recv put) (step : Step) (ends : EndsIn (Unit {0}) (turn_plan w.receiver (number l) put) step) where
+module _ (w : PlainWorld) (l : ℕ) (s : IsSound w) (f : Finishing w) (within : l < length w.pairs) (put : Put) (hands : Hands (pair_at w l).recv put)
+    (step : Step) (ends : EndsIn (Unit {0}) (turn_plan w.receiver (number l) put) step) where
   abbrev Stepped : ℕ → Pair → Type 0
   Stepped k p =
-      (q : ℕ) → IsTalking (recv_stance (recv.lane_at step.1 k) (recv.past_at step.1 k).is_idle (recv.past_at step.1 k).is_acked p.recv) → has (recv.past_at step.1 k).telling q ≡ true
+      (q : ℕ) → IsTalking (recv_stance (recv.lane_at step.1 k) (recv.past_at step.1 k).is_idle (recv.past_at step.1 k).is_acked p.recv) → has
+      (recv.past_at step.1 k).telling q ≡ true
       → TellsOn (is_closed w.sender q ≡ true) q p (send_stance (lane_at w.sender k) (past_at w.sender k).is_acked p.send)
 
   touched : RecvTouches w.receiver (number l) step.1
   touched = turn_touches w.receiver (number l) put step ends
 
   past_there : (k : ℕ) → k ≢ l → recv.past_at step.1 k ≡ recv.past_at w.receiver k
-  past_there k ne = ap (λ (g : List RecvEvent). past_of g k) touched.history.behind ∙ others_past w.receiver.history touched.history.entries l k touched.history.own ne
+  past_there k ne =
+      ap (λ (g : List RecvEvent). past_of g k) touched.history.behind ∙ others_past w.receiver.history touched.history.entries l k touched.history.own ne
 
   stepped_others : (i : ℕ) → i < length w.pairs → i ≢ l → Stepped i (pair_at w i)
   stepped_others i b ne q talks e =
@@ -196,7 +205,8 @@ module _ (w : PlainWorld) (l : ℕ) (s : IsSound w) (f : Finishing w) (within : 
   stepped_own q talks e = go (recv_seen.turn_seen w l s.talk within put hands (s.belongs.recv l within) step ends) where
     go : Seen w.receiver l put step → TellsOn (is_closed w.sender q ≡ true) q (recv_gets (pair_at w l) step.0) (sends_at w l)
     go (Stays st) =
-        steps_tell (is_closed w.sender q ≡ true) q (pair_at w l).send (sends_at w l) (pair_at w l).between (pair_at w l).newest (pair_at w l).denies (pair_at w l).refusals (pair_at w l).recv step.0 (pair_at w l).taken (hands_mute (pair_at w l).recv put hands)
+        steps_tell (is_closed w.sender q ≡ true) q (pair_at w l).send (sends_at w l) (pair_at w l).between (pair_at w l).newest (pair_at w l).denies
+        (pair_at w l).refusals (pair_at w l).recv step.0 (pair_at w l).taken (hands_mute (pair_at w l).recv put hands)
         (done_behind (in_hand (pair_at w l).recv) (down_sent (pair_at w l).taken))
         (f.tellings l q within (turn_spoke w l s.talk within put hands (s.belongs.recv l within) step ends talks) (ap (λ (ks : List ℕ). has ks q) (sym (st.telling l)) ∙ e))
     go (Drops o) = none_told q o.telling e
@@ -213,10 +223,13 @@ module _ (w : PlainWorld) (l : ℕ) (s : IsSound w) (f : Finishing w) (within : 
       told : has (k ∷ ks) q ≡ true
       told = sym (has_set (k ∷ ks) q) ∙ in_filter (has_lane (set_of (k ∷ ks))) (numbers 16) q (ap (λ (x : RecvPast). has x.telling q) (sym past) ∙ e)
     go (Ends t sound p many first ready is) =
-        none_told q (ap (λ (g : List RecvEvent). (past_of g l).telling) is ∙ (ap (λ (x : RecvPast). x.telling) (past_of-append t.history (events.Finish ∷ []) l) ∙ point_telling w.receiver l put t.history legal p)) e
+        none_told q
+        (ap (λ (g : List RecvEvent). (past_of g l).telling) is ∙ (ap (λ (x : RecvPast). x.telling) (past_of-append t.history (events.Finish ∷ []) l) ∙ point_telling w.receiver l put t.history legal p)) e
 
   pub recv_turn_tells : Tellings (recv_turned w l step)
-  recv_turn_tells k q small = each_pair Stepped w.pairs l (recv_gets (pair_at w l) step.0) within stepped_own stepped_others k (subst (λ (n : ℕ). k < n) (length-set w.pairs l (recv_gets (pair_at w l) step.0)) small) q
+  recv_turn_tells k q small =
+      each_pair Stepped w.pairs l (recv_gets (pair_at w l) step.0) within stepped_own stepped_others k
+      (subst (λ (n : ℕ). k < n) (length-set w.pairs l (recv_gets (pair_at w l) step.0)) small) q
 
 -- ---- whatever happens
 
@@ -233,12 +246,18 @@ module _ (stay : StayClosed) (touches : SenderTouches) (comes : SenderComes) whe
       (λ act is. pair_tells w l (recv_does (pair_at w l) act) within f.tellings (λ q talks e. acts_so act is q talks e))
       (λ put hands. recv_turn_tells w l s f within put hands (recv_turn w.receiver l put broken) (ends_in (turn_plan w.receiver (number l) put) broken)) where
         acts_so : (act : RecvAct) → (pair_at w l).recv ≡ RecvDoes act → Part w l (recv_does (pair_at w l) act)
-        acts_so act is q talks e = subst (TellsOn (is_closed w.sender q ≡ true) q (recv_does (pair_at w l) act)) (ap (send_stance (lane_at w.sender l) (past_at w.sender l).is_acked) (sym (does_send (pair_at w l) act))) (recv_act_tells w l s f within q act is talks e)
+        acts_so act is q talks e =
+            subst (TellsOn (is_closed w.sender q ≡ true) q (recv_does (pair_at w l) act))
+            (ap (send_stance (lane_at w.sender l) (past_at w.sender l).is_acked) (sym (does_send (pair_at w l) act)))
+            (recv_act_tells w l s f within q act is talks e)
   tellings_after w (Cut l down up) s f within =
       let p : Pair = pair_at w l in
       pair_tells w l (cuts_by (pair_at w l) down up (top_by (pair_at w l).newest (pair_at w l).taken)) within f.tellings (λ q talks e.
-      subst (TellsOn (is_closed w.sender q ≡ true) q (cuts_by p down up (top_by p.newest p.taken))) (ap (send_stance (lane_at w.sender l) (past_at w.sender l).is_acked) (sym (cuts_send p down up (top_by p.newest p.taken))))
+      subst (TellsOn (is_closed w.sender q ≡ true) q (cuts_by p down up (top_by p.newest p.taken)))
+      (ap (send_stance (lane_at w.sender l) (past_at w.sender l).is_acked) (sym (cuts_send p down up (top_by p.newest p.taken))))
       (cut_tells (is_closed w.sender q ≡ true) q (sends_at w l) p.send p.recv p.taken p.between p.newest p.denies p.refusals down up
       (f.tellings l q within (subst IsTalking (ap (recv_stance (recv.lane_at w.receiver l) (recv.past_at w.receiver l).is_idle (recv.past_at w.receiver l).is_acked) (cuts_recv p down up (top_by p.newest p.taken))) talks) e)))
-  tellings_after w (Deny l) s f within = pair_tells w l (record (pair_at w l) { denies = suc (pair_at w l).denies }) within f.tellings (λ q talks e. f.tellings l q within talks e)
-  tellings_after w (Refuse l) s f within = pair_tells w l (record (pair_at w l) { refusals = suc (pair_at w l).refusals }) within f.tellings (λ q talks e. f.tellings l q within talks e)
+  tellings_after w (Deny l) s f within =
+      pair_tells w l (record (pair_at w l) { denies = suc (pair_at w l).denies }) within f.tellings (λ q talks e. f.tellings l q within talks e)
+  tellings_after w (Refuse l) s f within =
+      pair_tells w l (record (pair_at w l) { refusals = suc (pair_at w l).refusals }) within f.tellings (λ q talks e. f.tellings l q within talks e)

@@ -39,24 +39,31 @@ module _ (known : Type 0) (q : ℕ) (sh : SendHold) (ss : Stance) (between : Lis
   Tells p = TellsOn known q p ss
 
   -- what it holds changes, and it was about to say nothing
-  holds_else : (old new : RecvHold) (taken : Option Link) → to_say old ≡ [] → (has_done (in_hand old ++ down_sent taken) ≡ false → has_done (in_hand new ++ down_sent taken) ≡ false) → Tells (pair old taken) → Tells (pair new taken)
+  holds_else : (old new : RecvHold) (taken : Option Link) → to_say old ≡ []
+      → (has_done (in_hand old ++ down_sent taken) ≡ false → has_done (in_hand new ++ down_sent taken) ≡ false) → Tells (pair old taken)
+      → Tells (pair new taken)
   holds_else old new taken mute done (inl x) = inl x
   holds_else old new taken mute done (inr (inl x)) = absurd (both_ways false refl (ap (marked_in q) (sym mute) ∙ x))
   holds_else old new taken mute done (inr (inr (inl x))) = inr (inr (inl x))
   holds_else old new taken mute done (inr (inr (inr x))) = inr (inr (inr (x.0, done x.1)))
 
   -- it writes a frame: marks in it are on their way to a sender that talks
-  pub writes_tell : (f : Frame) (taken : Option Link) → (marked_in q (f ∷ []) ≡ true → has_done (down_sent taken) ≡ false) → Tells (pair (RecvDoes (recv_acts.Write f)) taken) → Tells (recv_writes (pair (RecvDoes (recv_acts.Write f)) taken) f taken)
+  pub writes_tell : (f : Frame) (taken : Option Link) → (marked_in q (f ∷ []) ≡ true → has_done (down_sent taken) ≡ false)
+      → Tells (pair (RecvDoes (recv_acts.Write f)) taken) → Tells (recv_writes (pair (RecvDoes (recv_acts.Write f)) taken) f taken)
   writes_tell f None none t = t
   writes_tell f (Some k) none t = go (not (is_cut k.up) && not (send_left newest sh)) where
     later : Option Link
     later = Some record k { up = with_sent k.up (f ∷ []) }
 
-    up : (b : Bool) → Tells (pair (RecvDoes (recv_acts.Write f)) (Some k)) → has_done (in_hand (RecvHas (recv_wrote_or_lost b)) ++ k.down.sent) ≡ has_done k.down.sent → Tells (pair (RecvHas (recv_wrote_or_lost b)) later)
+    up : (b : Bool) → Tells (pair (RecvDoes (recv_acts.Write f)) (Some k))
+        → has_done (in_hand (RecvHas (recv_wrote_or_lost b)) ++ k.down.sent) ≡ has_done k.down.sent → Tells (pair (RecvHas (recv_wrote_or_lost b)) later)
     up b (inl x) same = inl x
     up b (inr (inl x)) same =
-        by_talk known q (pair (RecvHas (recv_wrote_or_lost b)) later) ss (λ n y. marked_behind q (send_in_hand sh) (k.up.sent ++ f ∷ []) (marked_behind q k.up.sent (f ∷ []) x)) (same ∙ none x)
-    up b (inr (inr (inl x))) same = inr (inr (inl (x.0, x.1, ap (marked_in q) (sym (append_assoc (send_in_hand sh) k.up.sent (f ∷ []))) ∙ marked_more q (send_in_hand sh ++ k.up.sent) (f ∷ []) x.2)))
+        by_talk known q (pair (RecvHas (recv_wrote_or_lost b)) later) ss
+        (λ n y. marked_behind q (send_in_hand sh) (k.up.sent ++ f ∷ []) (marked_behind q k.up.sent (f ∷ []) x)) (same ∙ none x)
+    up b (inr (inr (inl x))) same =
+        inr
+        (inr (inl (x.0, x.1, ap (marked_in q) (sym (append_assoc (send_in_hand sh) k.up.sent (f ∷ []))) ∙ marked_more q (send_in_hand sh ++ k.up.sent) (f ∷ []) x.2)))
     up b (inr (inr (inr x))) same = inr (inr (inr (x.0, same ∙ x.1)))
 
     go : (b : Bool) → Tells (pair (RecvHas (recv_wrote_or_lost b)) later)
@@ -72,7 +79,8 @@ module _ (known : Type 0) (q : ℕ) (sh : SendHold) (ss : Stance) (between : Lis
   pub reads_tell : (taken : Option Link) → Tells (pair (RecvDoes recv_acts.Read) taken) → Tells (recv_reads (pair (RecvDoes recv_acts.Read) taken) taken)
   reads_tell None t = t
   reads_tell (Some k) t = go (front size_down k.down) refl where
-    got : (f : Frame) (rest : Way Message) → k.down.sent ≡ Framed f ∷ rest.sent → Tells (pair (RecvDoes recv_acts.Read) (Some k)) → Tells (pair (RecvHas (recv_inputs.Got f)) (Some record k { down = rest }))
+    got : (f : Frame) (rest : Way Message) → k.down.sent ≡ Framed f ∷ rest.sent → Tells (pair (RecvDoes recv_acts.Read) (Some k))
+        → Tells (pair (RecvHas (recv_inputs.Got f)) (Some record k { down = rest }))
     got f rest is (inl x) = inl x
     got f rest is (inr (inl x)) = absurd (both_ways false refl x)
     got f rest is (inr (inr (inl x))) = inr (inr (inl x))
@@ -84,10 +92,12 @@ module _ (known : Type 0) (q : ℕ) (sh : SendHold) (ss : Stance) (between : Lis
     go None is = nothing_tell (RecvDoes recv_acts.Read) k refl refl t
 
   -- or takes a piece
-  pub takes_tell : (n : ℕ) (taken : Option Link) → Tells (pair (RecvDoes (recv_acts.TakePiece n)) taken) → Tells (recv_takes (pair (RecvDoes (recv_acts.TakePiece n)) taken) taken)
+  pub takes_tell : (n : ℕ) (taken : Option Link) → Tells (pair (RecvDoes (recv_acts.TakePiece n)) taken)
+      → Tells (recv_takes (pair (RecvDoes (recv_acts.TakePiece n)) taken) taken)
   takes_tell n None t = t
   takes_tell n (Some k) t = go (front size_down k.down) refl where
-    took : (m : ℕ) (rest : Way Message) → k.down.sent ≡ Piece m ∷ rest.sent → Tells (pair (RecvDoes (recv_acts.TakePiece n)) (Some k)) → Tells (pair (RecvTook m) (Some record k { down = rest }))
+    took : (m : ℕ) (rest : Way Message) → k.down.sent ≡ Piece m ∷ rest.sent → Tells (pair (RecvDoes (recv_acts.TakePiece n)) (Some k))
+        → Tells (pair (RecvTook m) (Some record k { down = rest }))
     took m rest is (inl x) = inl x
     took m rest is (inr (inl x)) = absurd (both_ways false refl x)
     took m rest is (inr (inr (inl x))) = inr (inr (inl x))
@@ -99,5 +109,7 @@ module _ (known : Type 0) (q : ℕ) (sh : SendHold) (ss : Stance) (between : Lis
     go None is = nothing_tell (RecvDoes (recv_acts.TakePiece n)) k refl refl t
 
   -- what it handed in is stepped
-  pub steps_tell : (old : RecvHold) (act : RecvAct) (taken : Option Link) → to_say old ≡ [] → (has_done (in_hand old ++ down_sent taken) ≡ false → has_done (down_sent taken) ≡ false) → Tells (pair old taken) → Tells (pair (RecvDoes act) taken)
+  pub steps_tell : (old : RecvHold) (act : RecvAct) (taken : Option Link) → to_say old ≡ []
+      → (has_done (in_hand old ++ down_sent taken) ≡ false → has_done (down_sent taken) ≡ false) → Tells (pair old taken)
+      → Tells (pair (RecvDoes act) taken)
   steps_tell old act taken mute done t = holds_else old (RecvDoes act) taken mute done t

@@ -1,23 +1,19 @@
 -- As long as blocks wait, some lane may still take them, whatever happens.
-use Rattle.std.proofs.Common.{◌≡◌, ◌≢◌, ◌⊎◌, inl, inr, ℕ, zero, suc, ◌<◌, ◌==◌, ◌||◌, Bool, true, false, List, [], ◌∷◌, ◌++◌, length, map, slice_set, Option, Some, None, subst, sym, ap, ◌∙◌, refl, eq-eqb}
-use Rattle.std.proofs.lemmas.Bool.{both_ways, cases_eq, false_from_ne_true, or_from}
+use Rattle.std.proofs.Common.{◌≡◌, ◌≢◌, inl, inr, ℕ, suc, ◌<◌, ◌==◌, ◌||◌, Bool, true, false, List, [], ◌∷◌, ◌++◌, length, map, Option, Some, None, subst, sym, ap, ◌∙◌, refl, eq-eqb}
+use Rattle.std.proofs.lemmas.Bool.{both_ways, cases_eq, false_from_ne_true}
 use Rattle.std.proofs.lemmas.List.{length-set}
 use Rattle.std.specs.List.{list_any}
 use Rattle.wdt_codec.specs.declared.frames.Frame.TheVariants as frames
 use Rattle.wdt_codec.specs.declared.frames.Mark.{Mark}
-use Rattle.wdt_sender_fsm.specs.declared.acts.SendAct.{SendAct}
 use Rattle.wdt_sender_fsm.specs.declared.inputs.SendIn.{SendIn}
-use Rattle.wdt_sender_fsm.specs.Phases.{Message, Phase, Open, Sending as SendingPhase, Bye}
-use Rattle.wdt_sender_fsm.specs.PlainSender.{is_closed, lane_at, past_at, state_at, waiting_blocks}
+use Rattle.wdt_sender_fsm.specs.Phases.{Open}
+use Rattle.wdt_sender_fsm.specs.PlainSender.{is_closed, lane_at, past_at, waiting_blocks}
 use Rattle.wdt_sender_fsm.specs.Rules.{is_failure}
 use Rattle.wdt_sender_fsm.specs.Turn.{Step as SendStep, send_turn}
-use Rattle.wdt_receiver_fsm.specs.declared.acts.RecvAct.{RecvAct}
-use Rattle.wdt_receiver_fsm.specs.declared.acts.RecvAct.TheVariants as recv_acts
 use Rattle.wdt_receiver_fsm.specs.declared.events.RecvEvent.{RecvEvent}
 use Rattle.wdt_receiver_fsm.specs.declared.events.RecvEvent.TheVariants as events
 use Rattle.wdt_receiver_fsm.specs.declared.inputs.RecvIn.TheVariants as recv_inputs
 use Rattle.wdt_receiver_fsm.specs.declared.states.RecvLane.{RecvLane}
-use Rattle.wdt_receiver_fsm.specs.declared.states.RecvState.{RecvState}
 use Rattle.wdt_receiver_fsm.specs.declared.states.RecvState.TheVariants as recv_states
 use Rattle.wdt_receiver_fsm.specs.Plan.{EndsIn}
 use Rattle.wdt_receiver_fsm.specs.PlainReceiver as recv
@@ -28,26 +24,24 @@ use Rattle.wdt_receiver_fsm.specs.ReceiverHistory.{EndPast, RecvPast, end_of, en
 use Rattle.wdt_receiver_fsm.specs.Sets.{has, set_of}
 use Rattle.wdt_receiver_fsm.specs.Turn.{Given, Put, Step, turn_plan}
 use Rattle.wdt_receiver_fsm.proofs.ForCallers.{tellers_tell, turn_touches}
-use Rattle.wdt_pact.specs.Belongs.{RecvBelongs, SendBelongs}
+use Rattle.wdt_pact.specs.Belongs.{SendBelongs}
 use Rattle.wdt_pact.specs.Conversation.{to_say}
-use Rattle.wdt_pact.specs.Each.{Each}
 use Rattle.wdt_pact.specs.Finishing.{BusyBy, Finishing, IsBusy, coming_on, down_sent, is_coming, marked_in, receives_at, says_done, sends_at, telling}
 use Rattle.wdt_pact.specs.Fitting.{IsSound, lane_of}
 use Rattle.wdt_pact.specs.Links.{Link}
-use Rattle.wdt_pact.specs.Lists.{has_done, in_hand}
-use Rattle.wdt_pact.specs.Pairs.{Pair, RecvHold, RecvDoes, RecvHas, SendHold, SendDoes, SendHas, cuts_by, recv_accepts, recv_accepts_by, recv_does, recv_gets, send_does, send_stops, send_takes, top}
-use Rattle.wdt_pact.specs.Progress.{Holds}
-use Rattle.wdt_pact.specs.Stances.{Agree, AgreeWaiting, IsTalking, OnLink, Stance, Talks, Aborts, Silent, recv_stance, send_stance}
-use Rattle.wdt_pact.specs.World.{PlainWorld, WorldEvent, Sends, Receives, Cut, Deny, Refuse, happens, number, pair_at, pair_or, recv_turn, recv_turned, send_turned, with_pair}
-use Rattle.wdt_pact.proofs.Below.{get_set, if_has}
-use Rattle.wdt_pact.proofs.Busy.{not_says, own_busy, says_quiet}
-use Rattle.wdt_pact.proofs.Coming.{NoWord, cuts_word, open_none, recv_reads_word, recv_takes_word, recv_writes_word, send_does_word, steps_word, takes_word}
+use Rattle.wdt_pact.specs.Lists.{in_hand}
+use Rattle.wdt_pact.specs.Pairs.{Pair, RecvDoes, SendHold, SendDoes, SendHas, cuts_by, recv_does, recv_gets, send_does, send_takes, top}
+use Rattle.wdt_pact.specs.Stances.{AgreeWaiting, IsTalking, OnLink, Stance, Talks, recv_stance, send_stance}
+use Rattle.wdt_pact.specs.World.{PlainWorld, WorldEvent, Sends, Receives, Cut, Deny, Refuse, happens, number, pair_at, pair_or, recv_turn, recv_turned, send_turned}
+use Rattle.wdt_pact.proofs.Below.{get_set}
+use Rattle.wdt_pact.proofs.Busy.{own_busy, says_quiet}
+use Rattle.wdt_pact.proofs.Coming.{cuts_word, steps_word, takes_word}
 use Rattle.wdt_pact.proofs.Confirming.{SoundLanes, opens, point_closed, point_confirms, point_telling, quiet_idle, sound_before}
 use Rattle.wdt_pact.proofs.Emptying.{recv_emptied}
 use Rattle.wdt_pact.proofs.Events.{recv_cases, send_cases}
-use Rattle.wdt_pact.proofs.Finishing.{comes as word_comes, hears_down}
+use Rattle.wdt_pact.proofs.Finishing.{comes as word_comes}
 use Rattle.wdt_pact.proofs.Frame.{each_pair}
-use Rattle.wdt_pact.proofs.Links.{is_first, waits_not}
+use Rattle.wdt_pact.proofs.Links.{waits_not}
 use Rattle.wdt_pact.proofs.Moving.{lane_holds}
 use Rattle.wdt_pact.proofs.RecvHands.{Hands, holds_input}
 use Rattle.wdt_pact.proofs.RecvOwn.{others_past}
@@ -57,117 +51,17 @@ use Rattle.wdt_pact.proofs.RecvSeen.{Asks, Closes, Drops, Ends, NowIdle, Point, 
 use Rattle.wdt_pact.proofs.RecvTalks.{turn_spoke}
 use Rattle.wdt_pact.proofs.SendSeen as send_seen
 use Rattle.wdt_pact.proofs.SendSeen.{Empties, Frees, Hushes, SendsOn, Talks-on, stands_behind}
-use Rattle.wdt_pact.proofs.Steps.{does_recv}
+use Rattle.wdt_pact.proofs.Taken.{Witness, busy_on, coming_of, no_word, not_coming, pair_witness, recv_act_coming, send_act_coming}
 use Rattle.wdt_pact.proofs.TellingAll.{SenderComes, Tellings, cuts_recv, marks_has}
-use Rattle.wdt_pact.proofs.TellingSteps.{acts_talk}
 use Rattle.wdt_pact.proofs.ToldLanes.{tells_closed}
-
--- ---- a last word that is coming
-
--- on a lane of this receiver
-abbrev coming_of : PlainReceiver → ℕ → Pair → Bool
-coming_of r k p = coming_on (recv_stance (recv.lane_at r k) (recv.past_at r k).is_idle (recv.past_at r k).is_acked p.recv) (in_hand p.recv ++ down_sent p.taken) (says_done p.newest p.send)
-
-not_coming : (rs : Stance) (ds : List Message) (says : Bool) → (IsTalking rs → (has_done ds || says) ≡ false) → coming_on rs ds says ≡ false
-not_coming (Talks q) ds says f = f tt
-not_coming Aborts ds says f = refl
-not_coming Silent ds says f = refl
-
-no_word : (rs : Stance) (ds : List Message) (says : Bool) → IsTalking rs → coming_on rs ds says ≡ false → (has_done ds || says) ≡ false
-no_word (Talks q) ds says t e = e
-no_word Aborts ds says t e = absurd t
-no_word Silent ds says t e = absurd t
-
--- no word comes with this pair that didn't come before
-pair_coming : (w : PlainWorld) (l : ℕ) (p : Pair) → l < length w.pairs → (is_coming w l ≡ false → coming_of w.receiver l p ≡ false) → (j : ℕ) → j < length w.pairs → is_coming w j ≡ false → is_coming (with_pair w l p) j ≡ false
-pair_coming w l p within own j small = each_pair (λ (i : ℕ) (x : Pair). is_coming w i ≡ false → coming_of w.receiver i x ≡ false) w.pairs l p within own (λ i b ne e. e) j small
-
--- ---- a lane that is busy stays so
-
-busy_on : (w v : PlainWorld) (k : ℕ) → length v.pairs ≡ length w.pairs → (recv.past_at v.receiver k).is_closed ≡ (recv.past_at w.receiver k).is_closed → ((recv.past_at w.receiver k).is_idle ≡ false → (recv.past_at v.receiver k).is_idle ≡ false)
-    → (BusyBy true w k → is_confirmed v.receiver.history k ≡ false) → ((j : ℕ) → j < length w.pairs → has (telling v j) k ≡ true → has (telling w j) k ≡ true)
-    → ((j : ℕ) → j < length w.pairs → is_coming w j ≡ false → is_coming v j ≡ false) → k < length w.pairs → IsBusy w k → IsBusy v k
-busy_on w v k many closed idle confirmed told coming small busy = subst (λ (b : Bool). BusyBy b v k) (sym closed) (go (recv.past_at w.receiver k).is_closed busy) where
-  go : (b : Bool) → BusyBy b w k → BusyBy b v k
-  go true x = (confirmed x, λ j b e. let s : j < length w.pairs = subst (λ (n : ℕ). j < n) many b in coming j s (x.1 j s (told j s e)))
-  go false x = (idle x.0, coming k small x.1)
-
-abbrev pub Witness : PlainWorld → Type 0
-Witness w = is_failure w.receiver.answer ≡ false → (waiting_blocks w.sender ≡ [] → ⊥) → (l : ℕ) × (l < length w.pairs) × IsBusy w l
-
--- a step that leaves both ends, and lets no word come
-pair_witness : (w : PlainWorld) (l : ℕ) (p : Pair) → l < length w.pairs → (is_coming w l ≡ false → coming_of w.receiver l p ≡ false) → Witness w → Witness (with_pair w l p)
-pair_witness w l p within own f sound waits =
-    let x = f sound waits in
-    let many : length (slice_set w.pairs l p) ≡ length w.pairs = length-set w.pairs l p in
-    (x.0, subst (λ (n : ℕ). x.0 < n) (sym many) x.1, busy_on w (with_pair w l p) x.0 many refl (λ e. e) (λ y. y.0) (λ j s e. e) (pair_coming w l p within own) x.1 x.2)
-
--- ---- an act of the sender's lane
-
-send_act_coming : (w : PlainWorld) (l : ℕ) (lost : Option ℕ) (act : SendAct) → (pair_at w l).send ≡ SendDoes act → is_coming w l ≡ false → coming_of w.receiver l (send_does (pair_at w l) lost act) ≡ false
-send_act_coming w l lost act is none =
-    not_coming _ _ _ (λ t. send_does_word (pair_at w l) lost act is
-    (no_word (receives_at w l) (in_hand (pair_at w l).recv ++ down_sent (pair_at w l).taken) (says_done (pair_at w l).newest (pair_at w l).send)
-    (subst IsTalking (ap (recv_stance (recv.lane_at w.receiver l) (recv.past_at w.receiver l).is_idle (recv.past_at w.receiver l).is_acked) (does_recv (pair_at w l) lost act)) t) none))
-
--- ---- an act of the receiver's lane
-
-module _ (w : PlainWorld) (l : ℕ) (s : IsSound w) (within : l < length w.pairs) where
-  h : Holds (sends_at w l) (receives_at w l) (state_at w.sender l) (recv.state_at w.receiver l) (pair_at w l)
-  h = lane_holds w l s within
-
-  abbrev None-comes : Pair → Type 0
-  None-comes p = coming_of w.receiver l p ≡ false
-
-  -- a connection is taken
-  abbrev linked : Stance
-  linked = recv_stance (recv.lane_at w.receiver l) (recv.past_at w.receiver l).is_idle (recv.past_at w.receiver l).is_acked (RecvHas recv_inputs.Linked)
-
-  accepts_by : recv.state_at w.receiver l ≡ recv_states.Listen → (pair_at w l).recv ≡ RecvDoes recv_acts.Accept → (bs : List Link) (o : Option Link) → (pair_at w l).between ≡ bs → (pair_at w l).newest ≡ o → None-comes (recv_accepts_by (pair_at w l) bs o)
-  accepts_by here holds (k ∷ ks) o between newest =
-      let at = s.talk.lanes l within in
-      not_coming linked k.down.sent (says_done (pair_at w l).newest (pair_at w l).send) (λ t. or_from (has_done k.down.sent) (says_done (pair_at w l).newest (pair_at w l).send)
-      (open_none k.down.sent (subst (Each (Agree Silent (Talks Open))) between at.agrees.waiting).0) (waits_on (pair_at w l).newest refl)) where
-        waits_on : (x : Option Link) → (pair_at w l).newest ≡ x → says_done x (pair_at w l).send ≡ false
-        waits_on None e = let y : k ∷ ks ≡ [] = sym between ∙ (s.talk.lanes l within).waits.order e in cc
-        waits_on (Some j) e = refl
-  accepts_by here holds [] (Some k) between newest =
-      let waiting : Agree (sends_at w l) (Talks Open) k = subst (AgreeWaiting (sends_at w l)) newest (s.talk.lanes l within).agrees.on_newest in
-      not_coming linked k.down.sent (says_done None (pair_at w l).send) (λ t. or_from (has_done k.down.sent) (says_done None (pair_at w l).send) (open_none k.down.sent (hears_down (sends_at w l) Open k.down.sent k.up.sent waiting))
-      (false_from_ne_true (says_done None (pair_at w l).send) (λ e.
-      let y = not_says None (pair_at w l).send (sends_at w l) e h.send_writes in
-      waits_not y.1.0 k.down.sent k.up.sent (subst (λ (st : Stance). OnLink st (Talks Open) k.down.sent k.up.sent) y.1.1 waiting) (late y.1.0 y.1.2)))) where
-        late : (p : Phase) → (p ≡ SendingPhase) ⊎ (p ≡ Bye) → is_first p ≡ false
-        late p (inl e) = ap is_first e
-        late p (inr e) = ap is_first e
-  accepts_by here holds [] None between newest =
-      if_has None-comes (send_stops (pair_at w l).send) (record (pair_at w l) { recv = RecvHas recv_inputs.NoLink }) (pair_at w l) refl
-      (not_coming (receives_at w l) (in_hand (pair_at w l).recv ++ down_sent (pair_at w l).taken) (says_done (pair_at w l).newest (pair_at w l).send) (λ t. absurd (subst (λ (st : RecvState). IsTalking (recv_stance (record (recv.lane_at w.receiver l) { state = st }) (recv.past_at w.receiver l).is_idle (recv.past_at w.receiver l).is_acked (RecvDoes recv_acts.Accept))) here
-      (subst (λ (x : RecvHold). IsTalking (recv_stance (recv.lane_at w.receiver l) (recv.past_at w.receiver l).is_idle (recv.past_at w.receiver l).is_acked x)) holds t))))
-
-  accepts : recv.state_at w.receiver l ≡ recv_states.Listen → (pair_at w l).recv ≡ RecvDoes recv_acts.Accept → (n : ℕ) → None-comes (recv_accepts (pair_at w l) n)
-  accepts here holds (suc n) = refl
-  accepts here holds zero = accepts_by here holds (pair_at w l).between (pair_at w l).newest refl refl
-
-  pub recv_act_coming : (act : RecvAct) → (pair_at w l).recv ≡ RecvDoes act → is_coming w l ≡ false → None-comes (recv_does (pair_at w l) act)
-  recv_act_coming act is none = go act is where
-    quiet : IsTalking (receives_at w l) → NoWord (pair_at w l)
-    quiet t = no_word (receives_at w l) (in_hand (pair_at w l).recv ++ down_sent (pair_at w l).taken) (says_done (pair_at w l).newest (pair_at w l).send) t none
-
-    go : (a : RecvAct) → (pair_at w l).recv ≡ RecvDoes a → None-comes (recv_does (pair_at w l) a)
-    go recv_acts.Accept e = accepts (subst (λ (y : RecvHold). RecvBelongs y (recv.lane_at w.receiver l) (recv.past_at w.receiver l)) e (s.belongs.recv l within)) e (pair_at w l).refusals
-    go (recv_acts.Write f) e = not_coming _ _ _ (λ t. recv_writes_word (pair_at w l) f (pair_at w l).taken refl (quiet (acts_talk w l s within (recv_acts.Write f) e refl t)))
-    go recv_acts.Read e = not_coming _ _ _ (λ t. recv_reads_word (pair_at w l) (pair_at w l).taken refl (ap in_hand e) (quiet (acts_talk w l s within recv_acts.Read e refl t)))
-    go (recv_acts.TakePiece n) e = not_coming _ _ _ (λ t. recv_takes_word (pair_at w l) (pair_at w l).taken refl (ap in_hand e) (quiet (acts_talk w l s within (recv_acts.TakePiece n) e refl t)))
-    go recv_acts.Park e = none
-    go recv_acts.Stop e = none
 
 -- ---- a turn of the sender's lane
 
 abbrev pub Confirmed : PlainWorld → Type 0
 Confirmed w = (q : ℕ) → is_confirmed w.receiver.history q ≡ true → is_closed w.sender q ≡ true
 
-module _ (comes : SenderComes) (w : PlainWorld) (l : ℕ) (input : SendIn) (s : IsSound w) (f : Finishing w) (within : l < length w.pairs) (holds : (pair_at w l).send ≡ SendHas input) where
+module _ (comes : SenderComes) (w : PlainWorld) (l : ℕ) (input : SendIn) (s : IsSound w) (f : Finishing w) (within : l < length w.pairs)
+    (holds : (pair_at w l).send ≡ SendHas input) where
   abbrev step : SendStep
   step = send_turn w.sender (number l) input
 
@@ -199,7 +93,8 @@ module _ (comes : SenderComes) (w : PlainWorld) (l : ℕ) (input : SendIn) (s : 
   own_witness on sound tellings confirmed fails waits = (
     l,
     here,
-    own_busy behind l on.phase sound.talk (λ k b. lane_holds behind k sound b) (λ k b. tellings k l b) (confirmed l) here on.opens (top (pair_at behind l).newest refl) stands on.early on.late
+    own_busy behind l on.phase sound.talk (λ k b. lane_holds behind k sound b) (λ k b. tellings k l b) (confirmed l) here on.opens
+        (top (pair_at behind l).newest refl) stands on.early on.late
         (ap (λ (h : SendHold). says_done (pair_at behind l).newest h) (ap (λ (p : Pair). p.send) pair_is) ∙ on.word (pair_at behind l).newest),
   ) where
     here : l < length behind.pairs
@@ -214,7 +109,8 @@ module _ (comes : SenderComes) (w : PlainWorld) (l : ℕ) (input : SendIn) (s : 
     top : (o : Option Link) → (pair_at behind l).newest ≡ o → (pair_at behind l).newest ≡ None
     top None e = e
     top (Some k) e =
-        waits_not on.phase k.down.sent k.up.sent (subst (λ (st : Stance). OnLink st (Talks Open) k.down.sent k.up.sent) stands (subst (AgreeWaiting (sends_at behind l)) e (sound.talk.lanes l here).agrees.on_newest)) on.first
+        waits_not on.phase k.down.sent k.up.sent
+        (subst (λ (st : Stance). OnLink st (Talks Open) k.down.sent k.up.sent) stands (subst (AgreeWaiting (sends_at behind l)) e (sound.talk.lanes l here).agrees.on_newest)) on.first
 
   pub send_turn_witness : IsSound behind → Tellings behind → Confirmed behind → Witness behind
   send_turn_witness sound tellings confirmed =
@@ -227,7 +123,8 @@ module _ (comes : SenderComes) (w : PlainWorld) (l : ℕ) (input : SendIn) (s : 
 
 -- ---- a turn of the receiver's lane
 
-module _ (sounds : SoundLanes) (w : PlainWorld) (l : ℕ) (s : IsSound w) (f : Finishing w) (within : l < length w.pairs) (put : Put) (hands : Hands (pair_at w l).recv put) (step : Step) (ends : EndsIn (Unit {0}) (turn_plan w.receiver (number l) put) step) where
+module _ (sounds : SoundLanes) (w : PlainWorld) (l : ℕ) (s : IsSound w) (f : Finishing w) (within : l < length w.pairs) (put : Put)
+    (hands : Hands (pair_at w l).recv put) (step : Step) (ends : EndsIn (Unit {0}) (turn_plan w.receiver (number l) put) step) where
   abbrev stepped : PlainWorld
   stepped = recv_turned w l step
 
@@ -256,11 +153,14 @@ module _ (sounds : SoundLanes) (w : PlainWorld) (l : ℕ) (s : IsSound w) (f : F
 
         others : (i : ℕ) → i < length w.pairs → i ≢ l → is_coming w i ≡ false → coming_of step.1 i (pair_at w i) ≡ false
         others i b ne e =
-            ap (λ (x : RecvLane). coming_on (recv_stance x (recv.past_at step.1 i).is_idle (recv.past_at step.1 i).is_acked (pair_at w i).recv) (in_hand (pair_at w i).recv ++ down_sent (pair_at w i).taken) (says_done (pair_at w i).newest (pair_at w i).send)) ((turn_touches w.receiver (number l) put step ends).others i ne)
+            ap
+            (λ (x : RecvLane). coming_on (recv_stance x (recv.past_at step.1 i).is_idle (recv.past_at step.1 i).is_acked (pair_at w i).recv) (in_hand (pair_at w i).recv ++ down_sent (pair_at w i).taken) (says_done (pair_at w i).newest (pair_at w i).send))
+            ((turn_touches w.receiver (number l) put step ends).others i ne)
             ∙ (ap (λ (x : RecvPast). coming_on (recv_stance (recv.lane_at w.receiver i) x.is_idle x.is_acked (pair_at w i).recv) (in_hand (pair_at w i).recv ++ down_sent (pair_at w i).taken) (says_done (pair_at w i).newest (pair_at w i).send)) (past_there i ne) ∙ e)
 
   -- where the lane tells of nobody more than before
-  fewer_told : (k : ℕ) → (has (recv.past_at step.1 l).telling k ≡ true → has (telling w l) k ≡ true) → (j : ℕ) → j < length w.pairs → has (telling stepped j) k ≡ true → has (telling w j) k ≡ true
+  fewer_told : (k : ℕ) → (has (recv.past_at step.1 l).telling k ≡ true → has (telling w l) k ≡ true) → (j : ℕ) → j < length w.pairs
+      → has (telling stepped j) k ≡ true → has (telling w j) k ≡ true
   fewer_told k own j b e = elim (cases_eq j l) [
     | inl same ↦ subst (λ (i : ℕ). has (telling w i) k ≡ true) (sym same) (own (subst (λ (i : ℕ). has (recv.past_at step.1 i).telling k ≡ true) same e))
     | inr ne ↦ ap (λ (x : RecvPast). has x.telling k) (sym (past_there j ne)) ∙ e
@@ -270,13 +170,17 @@ module _ (sounds : SoundLanes) (w : PlainWorld) (l : ℕ) (s : IsSound w) (f : F
   none_told k none e = absurd (both_ways (has (recv.past_at step.1 l).telling k) (ap (λ (ks : List ℕ). has ks k) none) e)
 
   -- another lane that was busy
-  other_busy : (k : ℕ) → k ≢ l → (BusyBy true w k → is_confirmed step.1.history k ≡ false) → (has (recv.past_at step.1 l).telling k ≡ true → has (telling w l) k ≡ true) → k < length w.pairs → IsBusy w k → IsBusy stepped k
+  other_busy : (k : ℕ) → k ≢ l → (BusyBy true w k → is_confirmed step.1.history k ≡ false)
+      → (has (recv.past_at step.1 l).telling k ≡ true → has (telling w l) k ≡ true) → k < length w.pairs → IsBusy w k → IsBusy stepped k
   other_busy k ne confirmed told b busy =
-      busy_on w stepped k as_many (ap (λ (x : RecvPast). x.is_closed) (past_there k ne)) (λ e. ap (λ (x : RecvPast). x.is_idle) (past_there k ne) ∙ e) confirmed (fewer_told k told) stepped_coming b busy
+      busy_on w stepped k as_many (ap (λ (x : RecvPast). x.is_closed) (past_there k ne))
+      (λ e. ap (λ (x : RecvPast). x.is_idle) (past_there k ne) ∙ e) confirmed (fewer_told k told) stepped_coming b busy
 
   -- the last word was read with this step
-  word_came : put ≡ Given (recv_inputs.Got frames.Done) → recv.state_at w.receiver l ≡ recv_states.ReadNextCmd → (recv.lane_at w.receiver l).is_sized ≡ true → is_failure w.receiver.answer ≡ false → is_coming w l ≡ true
-  word_came given here sized well = word_comes sounds w l s.talk f within here sized (holds_input (pair_at w l).recv put (recv_inputs.Got frames.Done) hands given refl) well
+  word_came : put ≡ Given (recv_inputs.Got frames.Done) → recv.state_at w.receiver l ≡ recv_states.ReadNextCmd → (recv.lane_at w.receiver l).is_sized ≡ true
+      → is_failure w.receiver.answer ≡ false → is_coming w l ≡ true
+  word_came given here sized well =
+      word_comes sounds w l s.talk f within here sized (holds_input (pair_at w l).recv put (recv_inputs.Got frames.Done) hands given refl) well
 
   resized : (k : ℕ) → k < length w.pairs → k < length stepped.pairs
   resized k b = subst (λ (n : ℕ). k < n) (sym as_many) b
@@ -287,7 +191,8 @@ module _ (sounds : SoundLanes) (w : PlainWorld) (l : ℕ) (s : IsSound w) (f : F
     before = f.witness (sound_before sounds w l s.talk f within put hands (s.belongs.recv l within) step ends fine) waits
 
     -- the lane that takes blocks is another
-    others : ((k : ℕ) → k ≢ l → k < length w.pairs → IsBusy w k → IsBusy stepped k) → (IsBusy w l → IsBusy stepped l) → (k : ℕ) × (k < length stepped.pairs) × IsBusy stepped k
+    others : ((k : ℕ) → k ≢ l → k < length w.pairs → IsBusy w k → IsBusy stepped k) → (IsBusy w l → IsBusy stepped l)
+        → (k : ℕ) × (k < length stepped.pairs) × IsBusy stepped k
     others other own = elim (cases_eq before.0 l) [
       | inl same ↦ (l, resized l within, own (subst (IsBusy w) same before.2))
       | inr ne ↦ (before.0, resized before.0 before.1, other before.0 ne before.1 before.2)
@@ -315,16 +220,20 @@ module _ (sounds : SoundLanes) (w : PlainWorld) (l : ℕ) (s : IsSound w) (f : F
           unconfirmed = o.confirmed l ∙ false_from_ne_true (is_confirmed w.receiver.history l) (λ e. both_ways (recv.past_at w.receiver l).is_closed is_open ((s.talk.lanes l within).closed (f.confirmed l e)).there)
 
           untold : (j : ℕ) → j < length w.pairs → has (telling stepped j) l ≡ true → ⊥
-          untold j b e = both_ways (recv.past_at w.receiver l).is_closed is_open (tells_closed w.receiver j l s.talk.receiver (fewer_told l (none_told l o.telling) j b e))
+          untold j b e =
+              both_ways (recv.past_at w.receiver l).is_closed is_open
+              (tells_closed w.receiver j l s.talk.receiver (fewer_told l (none_told l o.telling) j b e))
     go (Asks p (inl fails)) = absurd (both_ways (is_failure step.1.answer) fine fails)
     go (Asks p (inr (inl come))) = finished come
     go (Asks p (inr (inr unready))) = others (λ k ne b x. other_busy k ne (confirms p k) (none_told k (point_telling w.receiver l put step.1.history legal p)) b x) (λ x. absurd (idle_not p (open_busy x))) where
       confirms : Point w.receiver l put step.1.history → (k : ℕ) → BusyBy true w k → is_confirmed step.1.history k ≡ false
       confirms (WasIdle is idle) k y = ap (λ (g : List RecvEvent). is_confirmed g k) is ∙ y.0
-      confirms (NowIdle is here sized given well) k y = false_from_ne_true (is_confirmed step.1.history k) (λ e. elim (point_confirms w.receiver l put step.1.history legal (NowIdle is here sized given well) k e) [
-        | inl x ↦ both_ways (is_confirmed w.receiver.history k) y.0 x
-        | inr x ↦ both_ways (is_coming w l) (y.1 l within (tellers_tell (terms_of w.receiver) w.receiver.history l k s.talk.receiver.legal ∙ x.1)) (word_came given here sized well)
-      ])
+      confirms (NowIdle is here sized given well) k y =
+          false_from_ne_true (is_confirmed step.1.history k)
+          (λ e. elim (point_confirms w.receiver l put step.1.history legal (NowIdle is here sized given well) k e) [
+            | inl x ↦ both_ways (is_confirmed w.receiver.history k) y.0 x
+            | inr x ↦ both_ways (is_coming w l) (y.1 l within (tellers_tell (terms_of w.receiver) w.receiver.history l k s.talk.receiver.legal ∙ x.1)) (word_came given here sized well)
+          ])
 
       idle_not : Point w.receiver l put step.1.history → BusyBy false w l → ⊥
       idle_not (WasIdle is idle) y = both_ways (recv.past_at w.receiver l).is_idle y.0 idle
@@ -350,12 +259,14 @@ module _ (sounds : SoundLanes) (w : PlainWorld) (l : ℕ) (s : IsSound w) (f : F
       marked =
           ap (λ (x : Pair). marked_in k (to_say x.recv)) (ap pair_or (get_set w.pairs l (recv_gets (pair_at w l) step.0) within))
           ∙ (ap (λ (x : Step). marked_in k (to_say (RecvDoes x.0))) is ∙ one (list_any (λ (m : Mark). m.lane.0 == k) (map (recv.mark_of t.history) (k ∷ ks))) (marks_has t.history k (k ∷ ks) ∙ first))
-    go (Ends t well p many first ready is) = finished (ap (λ (g : List RecvEvent). (end_of g).has_finish) is ∙ ap (λ (x : EndPast). x.has_finish) (end_of-append t.history (events.Finish ∷ [])))
+    go (Ends t well p many first ready is) =
+        finished (ap (λ (g : List RecvEvent). (end_of g).has_finish) is ∙ ap (λ (x : EndPast). x.has_finish) (end_of-append t.history (events.Finish ∷ [])))
 
 -- ---- whatever happens
 
 module _ (sounds : SoundLanes) (comes : SenderComes) where
-  pub witness_after : (w : PlainWorld) (e : WorldEvent) → IsSound w → Finishing w → lane_of e < length w.pairs → IsSound (happens w e) → Tellings (happens w e) → Confirmed (happens w e) → Witness (happens w e)
+  pub witness_after : (w : PlainWorld) (e : WorldEvent) → IsSound w → Finishing w → lane_of e < length w.pairs → IsSound (happens w e)
+      → Tellings (happens w e) → Confirmed (happens w e) → Witness (happens w e)
   witness_after w (Sends l lost) s f within =
       send_cases (λ (v : PlainWorld). IsSound v → Tellings v → Confirmed v → Witness v) w l lost
       (λ act is x y z. pair_witness w l (send_does (pair_at w l) lost act) within (send_act_coming w l lost act is) f.witness)

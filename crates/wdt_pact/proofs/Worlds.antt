@@ -33,6 +33,7 @@ use Rattle.wdt_pact.specs.Pairs.{SendHold, SendHas}
 use Rattle.wdt_pact.specs.Right.{IsRight}
 use Rattle.wdt_pact.specs.Stances.{Stance, Talks, send_stance, stand}
 use Rattle.wdt_pact.specs.World.{PlainWorld, WorldEvent, Sends, Receives, Cut, Deny, Refuse, all_happen, first_pair, first_world, happens, pair_at}
+use Rattle.wdt_pact.proofs.Agreeing.{list_after, told_true}
 use Rattle.wdt_pact.proofs.Beginning.{finishing_first, lands_in_order, receives_named, sends_named, sound_first}
 use Rattle.wdt_pact.proofs.Confirming.{SenderTouches, SoundLanes, StayClosed, confirmed_after, ready_after}
 use Rattle.wdt_pact.proofs.Counting.{greeting_right, marks_right}
@@ -44,13 +45,17 @@ use Rattle.wdt_pact.proofs.Witnessing.{witness_after}
 
 -- a world keeps its lanes
 pub many_stay : (w : PlainWorld) (e : WorldEvent) → length (happens w e).pairs ≡ length w.pairs
-many_stay w (Sends l lost) = send_cases (λ (v : PlainWorld). length v.pairs ≡ length w.pairs) w l lost (λ act is. length-set w.pairs l _) (λ input is. length-set w.pairs l _)
-many_stay w (Receives l broken) = recv_cases (λ (v : PlainWorld). length v.pairs ≡ length w.pairs) w l broken refl (λ act is. length-set w.pairs l _) (λ put hands. length-set w.pairs l _)
+many_stay w (Sends l lost) =
+    send_cases (λ (v : PlainWorld). length v.pairs ≡ length w.pairs) w l lost (λ act is. length-set w.pairs l _) (λ input is. length-set w.pairs l _)
+many_stay w (Receives l broken) =
+    recv_cases (λ (v : PlainWorld). length v.pairs ≡ length w.pairs) w l broken refl (λ act is. length-set w.pairs l _)
+    (λ put hands. length-set w.pairs l _)
 many_stay w (Cut l down up) = length-set w.pairs l _
 many_stay w (Deny l) = length-set w.pairs l _
 many_stay w (Refuse l) = length-set w.pairs l _
 
-module _ (sounds : SoundLanes) (stay : StayClosed) (touches : SenderTouches) (comes : SenderComes) (keeps : (w : PlainWorld) (e : WorldEvent) → IsSound w → Finishing w → lane_of e < length w.pairs → IsSound (happens w e)) where
+module _ (sounds : SoundLanes) (stay : StayClosed) (touches : SenderTouches) (comes : SenderComes)
+    (keeps : (w : PlainWorld) (e : WorldEvent) → IsSound w → Finishing w → lane_of e < length w.pairs → IsSound (happens w e)) where
   pub finishing_after : (w : PlainWorld) (e : WorldEvent) → IsSound w → Finishing w → lane_of e < length w.pairs → Finishing (happens w e)
   finishing_after w e s f within =
       record {
@@ -60,6 +65,7 @@ module _ (sounds : SoundLanes) (stay : StayClosed) (touches : SenderTouches) (co
         ready = ready_after sounds stay touches w e s f within;
         tells = tells_after touches comes w e s f within;
         sized = sized_after touches comes w e s f within;
+        list = list_after touches w e s f within;
         empty = empty_after sounds touches comes w e s f within;
         planned = planned_after sounds touches comes w e s f within;
       }
@@ -67,9 +73,12 @@ module _ (sounds : SoundLanes) (stay : StayClosed) (touches : SenderTouches) (co
   pub lanes_stay : (n m : ℕ) (es : List WorldEvent) → m ≡ n → AreOfLanes n es → AreOfLanes m es
   lanes_stay n m es is a = subst (λ (k : ℕ). AreOfLanes k es) (sym is) a
 
-  pub all_after : (es : List WorldEvent) (w : PlainWorld) → IsSound w → Finishing w → AreOfLanes (length w.pairs) es → IsSound (all_happen w es) × Finishing (all_happen w es)
+  pub all_after : (es : List WorldEvent) (w : PlainWorld) → IsSound w → Finishing w → AreOfLanes (length w.pairs) es
+      → IsSound (all_happen w es) × Finishing (all_happen w es)
   all_after [] w s f of = (s, f)
-  all_after (e ∷ es) w s f of = all_after es (happens w e) (keeps w e s f of.0) (finishing_after w e s f of.0) (lanes_stay (length w.pairs) (length (happens w e).pairs) es (many_stay w e) of.1)
+  all_after (e ∷ es) w s f of =
+      all_after es (happens w e) (keeps w e s f of.0) (finishing_after w e s f of.0)
+      (lanes_stay (length w.pairs) (length (happens w e).pairs) es (many_stay w e) of.1)
 
 -- ---- the receiver's last word is never early
 
@@ -83,34 +92,16 @@ none_held (suc n) f none =
     ∙ (ap (λ (c : ℕ). count_by is_held (tabulate n f) + c) (sum_by-cons one_if (f n) [] ∙ ap (λ (b : Bool). cond b 1 0 + 0) (none n (omega arith)))
     ∙ omega (arith, none_held n f (λ k small. none k (omega (arith, small)))))
 
-some_word : (o : Option Phase) (free : Bool) → IsWord o free → free ≡ false → (q : Phase) × (stand false o ≡ Talks q)
-some_word (Some q) free w e = (q, refl)
-some_word None true w e = cc
-some_word None false w e = absurd w
-
-reading_in : (st : SendState) → is_reading st ≡ true → is_send_out st ≡ false
-reading_in states.ReadLocalCheckpoint e = refl
-reading_in states.ReadFileChunks e = refl
-reading_in states.ReadReceiverCmd e = refl
-reading_in st e = cc
-
-first_told : (st : Stance) (q : Phase) (P : Frame → Type 0) (u : Frame) (us : List Frame) → st ≡ Talks q → AllTell st P (u ∷ us) → P u
-first_told st q P u us is all = (subst (λ (x : Stance). AllTell x P (u ∷ us)) is all).0
-
 -- a lane reads it only behind the finish
 pub word_finished : (w : PlainWorld) (l : ℕ) → IsSound w → l < length w.pairs → (pair_at w l).send ≡ SendHas (inputs.Got frames.Done) → (common w.receiver).finish ≡ true
-word_finished w l s within holds =
-    let at = s.talk.lanes l within in
-    let reads = subst (λ (h : SendHold). SendBelongs h (lane_at w.sender l)) holds (s.belongs.send l within) in
-    let heard = subst (λ (h : SendHold). HeardUp h (lane_at w.sender l)) holds at.heard_up in
-    let q = some_word (phase_heard frames.Done (phase_by (lane_at w.sender l).ask false (state_at w.sender l))) (is_send_out (state_at w.sender l) || is_abort frames.Done) heard (ap (λ (b : Bool). b || false) (reading_in (state_at w.sender l) reads)) in
-    let told = subst (λ (h : SendHold). AllTell (send_stance (lane_at w.sender l) (past_at w.sender l).is_acked h) (Tells (common w.receiver) l (receiving w.receiver l).landed) (upward_by (pair_at w l).newest (pair_at w l).taken h (pair_at w l).recv)) holds at.upward in
-    first_told (send_stance (lane_at w.sender l) (past_at w.sender l).is_acked (SendHas (inputs.Got frames.Done))) q.0 (Tells (common w.receiver) l (receiving w.receiver l).landed) frames.Done _ q.1 told
+word_finished w l s within holds = told_true w l frames.Done s within holds refl
 
-pub never_early : (w : PlainWorld) (l : ℕ) → IsSound w → Finishing w → l < length w.pairs → (pair_at w l).send ≡ SendHas (inputs.Got frames.Done) → unfinished_blocks w.sender ≡ 0
+pub never_early : (w : PlainWorld) (l : ℕ) → IsSound w → Finishing w → l < length w.pairs → (pair_at w l).send ≡ SendHas (inputs.Got frames.Done)
+    → unfinished_blocks w.sender ≡ 0
 never_early w l s f within holds =
     let come = word_finished w l s within holds in
-    omega (arith, ap length (f.empty come), none_held (length w.sender.lanes) (λ k. (past_of w.sender.history k).claims) (λ k small. ((s.talk.lanes k (subst (λ (n : ℕ). k < n) s.talk.send_lanes small)).finished come).holds))
+    omega
+    (arith, ap length (f.empty come), none_held (length w.sender.lanes) (λ k. (past_of w.sender.history k).claims) (λ k small. ((s.talk.lanes k (subst (λ (n : ℕ). k < n) s.talk.send_lanes small)).finished come).holds))
 
 -- ---- nothing goes wrong
 
@@ -118,7 +109,8 @@ splits_none : (kept landed : List Header) → Splits kept landed [] → kept ≡
 unfolding Splits
 splits_none kept landed m = m ∙ append-nil landed
 
-pub is_right : SoundLanes → ((state : SendState) (ask acked : Bool) (frame : Frame) (q : Phase) → phase_heard frame (phase_by ask acked state) ≡ Some q → is_named (row_of state (inputs.Got frame)) ≡ true)
+pub is_right : SoundLanes
+    → ((state : SendState) (ask acked : Bool) (frame : Frame) (q : Phase) → phase_heard frame (phase_by ask acked state) ≡ Some q → is_named (row_of state (inputs.Got frame)) ≡ true)
     → (w : PlainWorld) (l : ℕ) → IsSound w → Finishing w → l < length w.pairs → IsRight w l
 is_right sounds hears w l s f within =
     record {
@@ -133,13 +125,18 @@ is_right sounds hears w l s f within =
 
 -- ---- worlds that began
 
-module _ (sounds : SoundLanes) (stay : StayClosed) (touches : SenderTouches) (comes : SenderComes) (keeps : (w : PlainWorld) (e : WorldEvent) → IsSound w → Finishing w → lane_of e < length w.pairs → IsSound (happens w e))
-    (sent : (manifest : List Entry) (block session n : ℕ) → 1 ≤ n → IsSender (opened manifest block session (replicate n new_lane))) (received : (log : Meaning) (batch n : ℕ) → n ≤ 16 → IsReceiver (recv.opened log batch (replicate n recv.new_lane))) where
+module _ (sounds : SoundLanes) (stay : StayClosed) (touches : SenderTouches) (comes : SenderComes)
+    (keeps : (w : PlainWorld) (e : WorldEvent) → IsSound w → Finishing w → lane_of e < length w.pairs → IsSound (happens w e))
+    (sent : (manifest : List Entry) (block session n : ℕ) → 1 ≤ n → IsSender (opened manifest block session (replicate n new_lane)))
+    (received : (log : Meaning) (batch n : ℕ) → n ≤ 16 → IsReceiver (recv.opened log batch (replicate n recv.new_lane))) where
   pub all_begun : (manifest : List Entry) (block session : ℕ) (log : Meaning) (batch n : ℕ) (conn : Conn) (es : List WorldEvent) → 1 ≤ n → n ≤ 16
-      → IsLawful (opened manifest block session (replicate n new_lane)) → ((file : ℕ) (entry : Entry) → slice_get manifest file ≡ Some entry → entry.stamp ≤ 2 ^ 64 - 1)
-      → FitsChunks (have_now log.files []) → AreOfLanes n es → IsSound (all_happen (first_world manifest block session log batch n conn) es) × Finishing (all_happen (first_world manifest block session log batch n conn) es)
+      → IsLawful (opened manifest block session (replicate n new_lane)) →
+      ((file : ℕ) (entry : Entry) → slice_get manifest file ≡ Some entry → entry.stamp ≤ 2 ^ 64 - 1)
+      → FitsChunks (have_now log.files []) → AreOfLanes n es → IsSound (all_happen (first_world manifest block session log batch n conn) es) × Finishing
+      (all_happen (first_world manifest block session log batch n conn) es)
   all_begun manifest block session log batch n conn es some few lawful stamps have of =
-      all_after sounds stay touches comes keeps es (first_world manifest block session log batch n conn) (sound_first manifest block session log batch n conn (sent manifest block session n some) (received log batch n few) lawful stamps have)
+      all_after sounds stay touches comes keeps es (first_world manifest block session log batch n conn)
+      (sound_first manifest block session log batch n conn (sent manifest block session n some) (received log batch n few) lawful stamps have)
       (finishing_first manifest block session log batch n conn some) (subst (λ (m : ℕ). AreOfLanes m es) (sym (length-replicate n (first_pair conn))) of)
 
 -- a world keeps its lanes, whatever happens
@@ -147,6 +144,7 @@ pub all_stay : (es : List WorldEvent) (w : PlainWorld) → length (all_happen w 
 all_stay [] w = refl
 all_stay (e ∷ es) w = all_stay es (happens w e) ∙ many_stay w e
 
-pub lanes_begun : (manifest : List Entry) (block session : ℕ) (log : Meaning) (batch n : ℕ) (conn : Conn) (es : List WorldEvent) (l : ℕ) → l < n → l < length (all_happen (first_world manifest block session log batch n conn) es).pairs
+pub lanes_begun : (manifest : List Entry) (block session : ℕ) (log : Meaning) (batch n : ℕ) (conn : Conn) (es : List WorldEvent) (l : ℕ) → l < n
+    → l < length (all_happen (first_world manifest block session log batch n conn) es).pairs
 lanes_begun manifest block session log batch n conn es l within =
     subst (λ (m : ℕ). l < m) (sym (all_stay es (first_world manifest block session log batch n conn) ∙ length-replicate n (first_pair conn))) within

@@ -1,6 +1,7 @@
 -- What holds of the lanes together: who takes the blocks that wait, and which closed lanes the sender knows of.
 use Rattle.std.specs.Prelude.{◌≡◌, ◌⊎◌, ℕ, ◌<◌, ◌==◌, ◌||◌, Bool, true, false, List, [], ◌++◌, length, is_some, Option, Some, None}
 use Rattle.std.specs.List.{list_any}
+use Rattle.wdt_units.specs.Have.{HaveFile}
 use Rattle.wdt_codec.specs.declared.frames.Frame.{Frame}
 use Rattle.wdt_codec.specs.declared.frames.Frame.TheVariants as frames
 use Rattle.wdt_codec.specs.declared.frames.Mark.{Mark}
@@ -9,6 +10,7 @@ use Rattle.wdt_sender_fsm.specs.Phases.{Message, Framed}
 use Rattle.wdt_sender_fsm.specs.PlainSender.{is_closed, waiting_blocks}
 use Rattle.wdt_sender_fsm.specs.Rules.{is_failure}
 use Rattle.wdt_receiver_fsm.specs.PlainReceiver as recv
+use Rattle.wdt_receiver_fsm.specs.PlainReceiver.{have_now}
 use Rattle.wdt_receiver_fsm.specs.Ready.{is_confirmed}
 use Rattle.wdt_receiver_fsm.specs.ReceiverHistory.{end_of}
 use Rattle.wdt_receiver_fsm.specs.Sets.{has}
@@ -107,6 +109,8 @@ pub record Finishing (w : PlainWorld) : Type 0 where
   -- what is sent in all is told, and was read, only where the sender has a plan
   pub tells : (l : ℕ) → l < length w.pairs → GoesDown (ComesOfPlan (is_some w.sender.have)) (pair_at w l)
   pub sized : ((end_of w.receiver.history).sized ≡ None → ⊥) → is_some w.sender.have ≡ true
+  -- what the sender read of the destination is what that had
+  pub list : (have : List HaveFile) → w.sender.have ≡ Some have → have ≡ have_now w.receiver.opening w.receiver.history
   -- behind the finish no block waits, and the sender has a plan
   pub empty : recv.has_finish w.receiver ≡ true → waiting_blocks w.sender ≡ []
   pub planned : recv.has_finish w.receiver ≡ true → is_some w.sender.have ≡ true

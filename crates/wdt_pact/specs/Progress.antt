@@ -1,6 +1,6 @@
 -- Which lanes can move, and what is needed for it: readers listen in phases in which the other end has the word,
 -- what is written is a move, and what was left behind is cut.
-use Rattle.std.specs.Prelude.{◌≡◌, ◌⊎◌, ◌||◌, nat_lt, Bool, true, false, List, [], ◌∷◌, is_some, Option, Some, None}
+use Rattle.std.specs.Prelude.{◌≡◌, ◌⊎◌, ℕ, ◌||◌, nat_lt, Bool, true, false, List, [], ◌∷◌, is_some, Option, Some, None}
 use Rattle.wdt_sender_fsm.specs.declared.acts.SendAct.TheVariants as acts
 use Rattle.wdt_sender_fsm.specs.declared.inputs.SendIn.TheVariants as inputs
 use Rattle.wdt_sender_fsm.specs.declared.states.SendState.{SendState}
@@ -10,10 +10,12 @@ use Rattle.wdt_receiver_fsm.specs.declared.acts.RecvAct.TheVariants as recv_acts
 use Rattle.wdt_receiver_fsm.specs.declared.inputs.RecvIn.TheVariants as recv_inputs
 use Rattle.wdt_receiver_fsm.specs.declared.states.RecvState.{RecvState}
 use Rattle.wdt_receiver_fsm.specs.declared.states.RecvState.TheVariants as recv_states
+use Rattle.wdt_receiver_fsm.specs.Turn.{Given}
 use Rattle.wdt_pact.specs.Each.{Each}
 use Rattle.wdt_pact.specs.Links.{Link, front, is_cut, size_down, size_up}
 use Rattle.wdt_pact.specs.Pairs.{SendHold, SendDoes, SendHas, RecvHold, RecvDoes, RecvHas, RecvTook, Pair, recv_stops, send_left, send_stops, top_by}
 use Rattle.wdt_pact.specs.Stances.{Stance, Talks, Aborts, Silent}
+use Rattle.wdt_pact.specs.World.{PlainWorld, pair_at, recv_turn}
 
 -- ---- which end can move
 
@@ -179,3 +181,17 @@ pub record Holds (ss rs : Stance) (send : SendState) (recv : RecvState) (p : Pai
   pub recv_writes : RecvWrites p.recv rs
   pub accepts : p.recv ≡ RecvDoes recv_acts.Accept → recv ≡ recv_states.Listen
   pub cut : AreCut send recv p
+
+-- ---- a world
+
+-- once woken, the receiver's lane doesn't wait on, whichever program of its calls on the disk fails
+abbrev pub Wakes : PlainWorld → ℕ → Type 0
+Wakes w l = (broken : Option ℕ) → is_parked (RecvDoes (recv_turn w.receiver l (Given recv_inputs.Woken) broken).0) ≡ false
+
+-- an end of the lane can move, or its receiver waits for other lanes, and doesn't wait on once woken
+abbrev pub GoesOn : PlainWorld → ℕ → Type 0
+GoesOn w l = (send_moves (pair_at w l) ≡ true) ⊎ ((recv_moves (pair_at w l) ≡ true) ⊎ ((is_parked (pair_at w l).recv ≡ true) × Wakes w l))
+
+-- both ends of the lane have stopped
+abbrev pub HasStopped : PlainWorld → ℕ → Type 0
+HasStopped w l = (send_stops (pair_at w l).send ≡ true) × (recv_stops (pair_at w l).recv ≡ true)

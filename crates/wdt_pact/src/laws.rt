@@ -14,6 +14,9 @@ ghost use Rattle.wdt_codec.specs.declared.frames.Frame.TheVariants as frames;
 ghost use Rattle.wdt_codec.specs.declared.frames.Mark.{Mark};
 ghost use Rattle.wdt_codec.specs.declared.frames.Settings.{Settings};
 ghost use Rattle.wdt_sender_fsm.specs.declared.acts.SendAct.TheVariants as acts;
+ghost use Rattle.wdt_sender_fsm.specs.declared.answers.EndAnswer.TheVariants as answers;
+ghost use Rattle.wdt_sender_fsm.specs.declared.peers.PeerKind.{PeerKind};
+ghost use Rattle.wdt_sender_fsm.specs.Chunks.{unordered_at};
 ghost use Rattle.wdt_sender_fsm.specs.declared.events.SendEvent.TheVariants.{Sent};
 ghost use Rattle.wdt_sender_fsm.specs.declared.inputs.SendIn.TheVariants as inputs;
 ghost use Rattle.wdt_sender_fsm.specs.declared.states.SendState.TheVariants as states;
@@ -47,14 +50,14 @@ ghost use Rattle.wdt_pact.specs.Fitting.{AreOfLanes, GoesDown, IsSound, lane_of}
 ghost use Rattle.wdt_pact.specs.Links.{front, size_down, size_up};
 ghost use Rattle.wdt_pact.specs.Lists.{Splits};
 ghost use Rattle.wdt_pact.specs.Pairs.{RecvDoes, RecvHas, RecvTook, SendDoes, SendHas};
-ghost use Rattle.wdt_pact.specs.Progress.{Holds, Moves};
+ghost use Rattle.wdt_pact.specs.Progress.{GoesOn, HasStopped, Holds, Moves};
 ghost use Rattle.wdt_pact.specs.Right.{IsRight};
 ghost use Rattle.wdt_pact.specs.World.{Cut, PlainWorld, WorldEvent, all_happen, first_world, happens, number, pair_at, recv_steps, send_steps};
 ghost use Rattle.wdt_sender_fsm.specs.declared.states.SendState.{SendState};
 
 use wdt_receiver_fsm::receivers_stay_receivers;
 use wdt_sender_fsm::{
-    a_sender_speaks_in_turn, histories_are_sound, senders_stay_senders, steps_answer_rightly,
+    a_sender_speaks_in_turn, file_lists_are_compared, histories_are_sound, senders_stay_senders, steps_answer_rightly,
     steps_have_outcomes, steps_touch_their_lane,
 };
 
@@ -328,6 +331,27 @@ pub fn nothing_goes_wrong()
     a_sender_speaks_in_turn();
 }
 
+/// Where what the destination had is in order, a sender finds no fault with its receiver: whatever happens to a sound world
+/// whose finish is as it must be, the sender's end doesn't come to say what the receiver did wrong; and in a world that
+/// began it never does.
+pub fn a_sender_finds_no_fault()
+    ensures event { (w : PlainWorld) (e : WorldEvent) (kind : PeerKind) → IsSound w → Finishing w → unordered_at (have_now w.receiver.opening w.receiver.history) ≡ None → lane_of e < length w.pairs
+        → (happens w e).sender.answer ≡ answers.Peer kind → w.sender.answer ≡ answers.Peer kind }
+    ensures begun { (manifest : List Entry) (block session : ℕ) (log : Meaning) (batch n : ℕ) (conn : Conn) (es : List WorldEvent) (kind : PeerKind) → 1 ≤ n → n ≤ 16
+        → IsLawful (opened manifest block session (replicate n new_lane)) → ((file : ℕ) (entry : Entry) → slice_get manifest file ≡ Some entry → entry.stamp ≤ 2 ^ 64 - 1)
+        → FitsChunks (have_now log.files []) → unordered_at (have_now log.files []) ≡ None → AreOfLanes n es
+        → (all_happen (first_world manifest block session log batch n conn) es).sender.answer ≡ answers.Peer kind → ⊥ }
+{
+    histories_are_sound();
+    senders_stay_senders();
+    receivers_stay_receivers();
+    steps_answer_rightly();
+    steps_have_outcomes();
+    steps_touch_their_lane();
+    a_sender_speaks_in_turn();
+    file_lists_are_compared();
+}
+
 /// Where a lane reads that nothing more is to come, and the receiver is ready for the finish with it, no block
 /// waits at the sender, and each lane has landed all that it claimed, and holds no block.
 pub fn the_finish_is_right()
@@ -348,6 +372,12 @@ pub fn one_end_can_move()
     ensures holds { (w : PlainWorld) (l : ℕ) → IsSound w → l < length w.pairs
         → Holds (sends (sending w.sender l) (pair_at w l)) (receives (receiving w.receiver l) (pair_at w l)) (state_at w.sender l) (recv.state_at w.receiver l) (pair_at w l) }
     ensures moves { (w : PlainWorld) (l : ℕ) → IsSound w → l < length w.pairs → Moves (pair_at w l) }
+{}
+
+/// A sound world stands still only where both ends of all its lanes have stopped: else an end of some lane can move, or a lane of the
+/// receiver that waits for the others goes on once woken, since it is told that they are through, or has to tell of one.
+pub fn no_world_stands_still()
+    ensures { (w : PlainWorld) → IsSound w → ((l : ℕ) × (l < length w.pairs) × GoesOn w l) ⊎ ((l : ℕ) → l < length w.pairs → HasStopped w l) }
 {}
 
 /// What is read of bytes that were cut anywhere is the message at the front, exactly where it can be taken
