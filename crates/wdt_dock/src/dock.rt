@@ -10,7 +10,7 @@ ghost use Rattle.wdt_good.specs.Logged.{AllFit, GoodSince};
 ghost use Rattle.wdt_log.specs.Flushing.{ReadsStand};
 ghost use Rattle.wdt_log.specs.Others.{OthersStand, SlipsStand};
 ghost use Rattle.wdt_sender_fsm.specs.Rules.{is_failure};
-ghost use Rattle.wdt_receiver_fsm.specs.Answered.{HasNoLane, has_all_done};
+ghost use Rattle.wdt_receiver_fsm.specs.Answered.{HasNoLane, IsHeard, has_all_done};
 ghost use Rattle.wdt_receiver_fsm.specs.Batched.{IsBatched};
 ghost use Rattle.wdt_receiver_fsm.specs.Logging.{all_logged, flush_calls};
 ghost use Rattle.wdt_receiver_fsm.specs.PlainReceiver.{failed, has_finish, lane_at, new_lane, opened, state_at};
@@ -169,13 +169,15 @@ impl<D: Depot + Drop> Dock<D> {
     }
 
     /// How the end fares: unless it has failed, that follows from its lanes. Of what landed all is logged but
-    /// for less than a batch, unless the end has failed; and behind the finish all is.
+    /// for less than a batch, unless the end has failed; and behind the finish all is. Where the answer is
+    /// what the sender did wrong, or that it failed, the history has it.
     pub fn answer(&self) -> &EndAnswer
         ensures value { result.now ≡ self.now.plain.answer }
         ensures receiver { IsReceiver self.now.plain }
         ensures batched { IsBatched self.now.plain }
         ensures done { (self.now.plain.answer ≡ EndAnswer.Done) ↔ (has_all_done self.now.plain ≡ true) }
         ensures link { (self.now.plain.answer ≡ EndAnswer.Link) ↔ HasNoLane self.now.plain }
+        ensures heard { IsHeard self.now.plain.answer self.now.plain.history }
         ensures logged { is_failure self.now.plain.answer ≡ false → IfTold (λ t. AllLogged self.now.plain t.now) (D.state self.now.depot).told }
         ensures finished { has_finish self.now.plain ≡ true → (HasLostDisk self.now.plain.answer → ⊥) → IfTold (λ t. EachLogged self.now.plain t.now) (D.state self.now.depot).told }
     {
@@ -203,6 +205,7 @@ impl<D: Depot + Drop> Dock<D> {
         ensures batched { IsBatched self.plain }
         ensures done { (self.plain.answer ≡ EndAnswer.Done) ↔ (has_all_done self.plain ≡ true) }
         ensures link { (self.plain.answer ≡ EndAnswer.Link) ↔ HasNoLane self.plain }
+        ensures heard { IsHeard self.plain.answer self.plain.history }
         ensures logged { is_failure self.plain.answer ≡ false → IfTold (λ t. AllLogged self.plain t.now) (D.state result.0).told }
         ensures finished { has_finish self.plain ≡ true → (HasLostDisk self.plain.answer → ⊥) → IfTold (λ t. EachLogged self.plain t.now) (D.state result.0).told }
     {

@@ -1,7 +1,9 @@
 -- The answer of an end follows from its lanes, behind each step.
 use Rattle.std.proofs.Common.{◌≡◌, ℕ, zero, suc, ◌<◌, ◌≤◌, ◌&&◌, Bool, true, false, List, [], ◌∷◌, length, replicate, is_some, Option, Some, refl, sym, ap, ◌∙◌, subst, arith}
 use Rattle.std.specs.Prelude.{◌↔◌, slice_get}
+use Rattle.std.specs.List.{Contains}
 use Rattle.std.proofs.lemmas.Bool.{both_ways, or_from}
+use Rattle.std.proofs.lemmas.List.Elements.{Contains-push}
 use Rattle.std.proofs.lemmas.List.{length-set}
 use Rattle.wdt_units.specs.declared.blocks.Block.{Block}
 use Rattle.wdt_units.specs.declared.numbers.Lane.{Lane}
@@ -10,11 +12,13 @@ use Rattle.wdt_logfmt.specs.View.{Meaning}
 use Rattle.wdt_sender_fsm.specs.declared.answers.EndAnswer.{EndAnswer}
 use Rattle.wdt_sender_fsm.specs.declared.answers.EndAnswer.TheVariants as answers
 use Rattle.wdt_sender_fsm.specs.Rules.{by_voice, every, is_failure, judged, standing}
+use Rattle.wdt_receiver_fsm.specs.declared.events.RecvEvent.{RecvEvent}
 use Rattle.wdt_receiver_fsm.specs.declared.events.RecvEvent.TheVariants as events
 use Rattle.wdt_receiver_fsm.specs.declared.states.RecvLane.{RecvLane}
 use Rattle.wdt_receiver_fsm.specs.declared.states.RecvState.{RecvState}
 use Rattle.wdt_receiver_fsm.specs.declared.states.RecvState.TheVariants as states
-use Rattle.wdt_receiver_fsm.specs.Answered.{HasNoLane, IsAnswered, has_all_done}
+use Rattle.wdt_receiver_fsm.specs.Answered.{HasNoLane, IsAnswered, IsHeard, has_all_done}
+use Rattle.wdt_receiver_fsm.specs.Causes.{IsCause}
 use Rattle.wdt_receiver_fsm.specs.Logging.{all_logged, all_logged_by}
 use Rattle.wdt_receiver_fsm.specs.Outcomes.{Acknowledged, Begun, Comes, ComesOf, Concluded, Ended, Failed, Fails, GivenUp, Greeted, Left, Linked, Listed, Listened, OfMemory, OfSender, Outcome, ReadOn, Rested, Serves, Sized, Taken, Told, Waited, Warned, came_to}
 use Rattle.wdt_receiver_fsm.specs.Plan.{EndsIn}
@@ -26,7 +30,7 @@ use Rattle.wdt_receiver_fsm.specs.Sets.{set_of}
 use Rattle.wdt_receiver_fsm.specs.Turn.{Put, Step, begins_by, given_up, greets_by, lands, leaves, meets, next_take, sized_by, tells_failure, turn_plan, waits_by}
 use Rattle.wdt_receiver_fsm.proofs.Comes.{end_comes}
 use Rattle.wdt_receiver_fsm.proofs.Entries.{abort_past}
-use Rattle.wdt_receiver_fsm.proofs.Failing.{failed_still, outcome_sound}
+use Rattle.wdt_receiver_fsm.proofs.Failing.{failed_still, outcome_sound, turn_follows}
 use Rattle.wdt_receiver_fsm.proofs.HeldActs.{fails_here, lane_set}
 use Rattle.wdt_receiver_fsm.proofs.Keeps.{every_false}
 use Rattle.wdt_receiver_fsm.proofs.Living.{live_lane}
@@ -144,12 +148,25 @@ module _ (r : PlainReceiver) (l : Lane) (put : Put) (is : IsReceiver r) (within 
 same_done : (r t : PlainReceiver) → t ≡ record r { lanes = t.lanes } → length t.lanes ≡ length r.lanes → has_all_done t ≡ has_all_done r
 same_done r t is many = ap has_all_done is ∙ ap (λ (n : ℕ). has_finish r && every n (is_done_with r)) many
 
+-- what was heard was noted
+heard_by : (r : PlainReceiver) (l : Lane) (put : Put) (t : PlainReceiver) (a : EndAnswer) → IsCause r l put t a → IsHeard a t.history
+heard_by r l put t answers.Source cause = cause
+heard_by r l put t (answers.Peer kind) cause = (l, subst (λ (h : List RecvEvent). Contains h (events.Peer l kind)) (sym cause.1) (Contains-push r.history (events.Peer l kind)))
+heard_by r l put t (answers.Aborted code) cause = (l, subst (λ (h : List RecvEvent). Contains h (events.Abort l code)) (sym cause.1) (Contains-push r.history (events.Abort l code)))
+heard_by r l put t (answers.Refused kind) cause = cause
+heard_by r l put t _ cause = tt
+
 pub turn_answered : (r : PlainReceiver) (l : Lane) (put : Put) (step : Step) → IsReceiver r → l.0 < length r.lanes → IsAnswered r → EndsIn (Unit {0}) (turn_plan r l put) step → IsAnswered step.1
 turn_answered r l put step is within answered ends = record {
   follows = subst (λ (x : Step). Follows x.1) (sym c.is) (outcome_answered r l c.outcome answered.follows);
   unfinished = go (is_failure r.answer) refl;
+  heard = heard_now (is_failure r.answer) refl;
 }
   where
+    heard_now : (b : Bool) → is_failure r.answer ≡ b → IsHeard step.1.answer step.1.history
+    heard_now true fails = subst (λ (x : PlainReceiver). IsHeard x.answer x.history) (sym ((turn_follows r l put step ends).still fails)) answered.heard
+    heard_now false sound = heard_by r l put step.1 step.1.answer ((turn_follows r l put step ends).caused sound)
+
     c : Comes r l put step
     c = end_comes r l put (Unit {0}) step ends
 
@@ -166,10 +183,10 @@ logged_answered r is = go r.unlogged
   where
     go : (bs : List Block) → IsAnswered (all_logged_by r bs)
     go [] = is
-    go (b ∷ bs) = record { follows = is.follows; unfinished = is.unfinished }
+    go (b ∷ bs) = record { follows = is.follows; unfinished = is.unfinished; heard = is.heard }
 
 pub lost_answered : (r : PlainReceiver) → has_finish r ≡ false → IsAnswered (failed r answers.Disk)
-lost_answered r first = record { follows = refl; unfinished = λ fails. none (has_finish r) (every_lane r is_done_with) first }
+lost_answered r first = record { follows = refl; unfinished = λ fails. none (has_finish r) (every_lane r is_done_with) first; heard = tt }
   where
     none : (a b : Bool) → a ≡ false → (a && b) ≡ false
     none true b x = absurd (cc)
@@ -204,6 +221,7 @@ module _ (log : Meaning) (batch n : ℕ) (some : 1 ≤ n) where
   opened_answered = record {
     follows = going (has_finish began) (every_lane began is_done_with) (every_lane began is_out) (ap (λ (e : EndPast). e.has_finish) end_of-none) none_out;
     unfinished = λ fails. absurd (both_ways false refl fails);
+    heard = tt;
   }
 
 -- ---- what an answer says

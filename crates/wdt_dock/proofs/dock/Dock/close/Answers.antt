@@ -8,7 +8,7 @@ use Rattle.wdt_dock.proofs.Keeping.{not_lost}
 use Rattle.wdt_dock.proofs.LandedLogged.{told_all, told_each}
 use Rattle.std.specs.Prelude.{◌↔◌}
 use Rattle.wdt_sender_fsm.specs.declared.answers.EndAnswer.TheVariants as answers
-use Rattle.wdt_receiver_fsm.specs.Answered.{HasNoLane, has_all_done}
+use Rattle.wdt_receiver_fsm.specs.Answered.{HasNoLane, IsHeard, has_all_done}
 use Rattle.wdt_dock.specs.Desk.{plain_of}
 use Rattle.wdt_receiver_fsm.proofs.ForCallers.{answered_done, answered_link}
 use Rattle.wdt_dock.proofs.dock.Dock.close.Goals as goal
@@ -36,3 +36,6 @@ pub returns-clause-link : goal.returns-clause-link
 returns-clause-link g c =
     let i = c.self.inside in
     subst (λ (r : PlainReceiver). (r.answer ≡ answers.Link) ↔ HasNoLane r) (ap (λ v. v.plain) c.self.view_is) (answered_link (plain_of i.end i.log i.writer) c.self.invariant.answered)
+
+pub returns-clause-heard : goal.returns-clause-heard
+returns-clause-heard g c = subst (λ (r : PlainReceiver). IsHeard r.answer r.history) (ap (λ v. v.plain) c.self.view_is) c.self.invariant.answered.heard
