@@ -96,6 +96,28 @@ impl<N: Run> Said<N> {
         }
     }
 
+    /// The frame, lent. None exactly for a piece.
+    pub fn as_frame(&self) -> Option<&Frame>
+        ensures value { option_map (λ frame. frame.now) result ≡ frame_in self.now }
+        ensures said { IsSaid N.told self.now }
+    {
+        match &self.item {
+            Item::Frame(frame) => Some(frame),
+            Item::Piece { .. } => None,
+        }
+    }
+
+    /// The bytes of the piece, lent. None exactly for a frame.
+    pub fn as_piece(&self) -> Option<&[u8]>
+        ensures value { option_map (λ bytes. bytes.now) result ≡ piece_in self.now }
+        ensures said { IsSaid N.told self.now }
+    {
+        match &self.item {
+            Item::Frame(_) => None,
+            Item::Piece { bytes, .. } => Some(bytes.as_slice()),
+        }
+    }
+
     /// Whether it is a frame.
     pub fn is_frame(&self) -> bool
         ensures { result ≡ is_whole self.now }

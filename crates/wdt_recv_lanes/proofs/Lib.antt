@@ -1,0 +1,4 @@
+pub mod Counting
+pub mod Hearing
+pub mod Keeping
+pub mod Totals
