@@ -1,4 +1,5 @@
 pub mod Counting
 pub mod Hearing
 pub mod Keeping
+pub mod Opening
 pub mod Totals

@@ -1,5 +1,5 @@
 -- What a receiver's end keeps of its run, and of its depot as it was handed in.
-use Rattle.std.specs.Prelude.{◌≡◌, ◌≤◌, ℕ, false, List, length, sum_by, Option, None, IfSome}
+use Rattle.std.specs.Prelude.{◌≡◌, ◌≤◌, ℕ, false, List, length, sum_by, Option, None, option_map, IfSome}
 use Rattle.std.specs.Str.{bytes_eq}
 use Rattle.wdt_units.specs.Counts.{Rises}
 use Rattle.wdt_units.specs.Tree.{File, file_of, length_of}
@@ -19,6 +19,10 @@ pub record Started : Type 0 where
   pub faults : ℕ
   pub slips : ℕ
   pub files : Option Image
+
+-- a depot in this state, as it is handed in
+abbrev pub started_of : State → Started
+started_of s = record { faults = s.faults; slips = s.slips; files = option_map (λ t. seen_of t.now) s.told }
 
 -- what the destination had is the run's have, where that is told
 abbrev pub HadOf : Option ToldRun → PlainReceiver → Type 0

@@ -11,7 +11,7 @@ use crate::lane::run_lane;
 use crate::seats::{FlaggedLanes, Seat, flagged, seat_all, unseat_all};
 use std::alloc::Global;
 use std::marker::PhantomData;
-use std::sync::Wait;
+use std::sync::{Mutex, Wait};
 use std::thread::Threads;
 use wdt_depot::Depot;
 use wdt_gate::Hub;
@@ -33,12 +33,12 @@ pub struct RecvEnd<H, P, A> {
     pub alarmed: LaneSet,
 }
 
-// Running a receiver's lane at a hub.
+// Running a receiver's lane at a hub. It keeps no depot, and asks of one what the hub's lock asks.
 #[derive(Drop)]
 struct RecvJob<N: Run, D: Depot + Drop, J: Start, A: Accept<N>, H: Hub<KeptDock<N, D, J>>> {
     hub: H,
     of: PhantomData<N>,
-    over: PhantomData<D>,
+    over: PhantomData<Mutex<D>>,
     since: PhantomData<J>,
     by: PhantomData<A>,
 }
@@ -61,7 +61,7 @@ impl<N: Run, D: Depot + Drop, J: Start, A: Accept<N>, H: Hub<KeptDock<N, D, J>>>
 fn run_lanes<
     R: Threads + Wait + Sync,
     N: Run + Sync,
-    D: Depot + Drop + Sync,
+    D: Depot + Drop + Send,
     J: Start + Sync,
     A: Accept<N> + Send + Sync,
     H: Hub<KeptDock<N, D, J>> + Sync,
@@ -109,7 +109,7 @@ fn retire_all<N: Run, A: Accept<N>>(acceptors: &mut [A])
 pub fn recv_end<
     R: Threads + Wait + Sync,
     N: Run + Sync,
-    D: Depot + Drop + Sync,
+    D: Depot + Drop + Send,
     J: Start + Sync,
     A: Accept<N> + Send + Sync,
     H: Hub<KeptDock<N, D, J>> + Sync,

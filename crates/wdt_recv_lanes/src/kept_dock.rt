@@ -32,10 +32,11 @@ impl Start for Brand {
     ghost started = { record { faults = 0; slips = 0; files = None } };
 }
 
-/// A dock. Its type says that what the destination had is the run's have, that all that it covers is the
-/// tree's, and that every image of its depot is good for the tree, where the run and the depot are told;
-/// and that since the depot was handed in no fault of it was taken back, the disk was lost only by one,
-/// and no slip came. Contracts see it as the dock.
+/// A dock. Its type says, where the run and the depot are told: what the destination had is the run's have,
+/// the totals that were read and all that it covers are the tree's, and every image of its depot is good
+/// for the tree; and since the depot was handed in no slip came, and each file but the tree's and the log
+/// reads as it did. Told or not, no fault of the depot was taken back, and the disk was lost only where one
+/// was counted. Contracts see it as the dock.
 #[derive(Drop)]
 pub struct KeptDock<N: Run, D: Depot + Drop, J: Start> {
     dock: Dock<D>,
