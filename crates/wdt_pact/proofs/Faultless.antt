@@ -1,5 +1,5 @@
 -- A sender never finds fault with its receiver.
-use Rattle.std.proofs.Common.{◌≡◌, ◌⊎◌, inl, inr, ℕ, ◌<◌, ◌==◌, not, Bool, true, false, List, [], ◌∷◌, length, Option, Some, None, is_some, subst, sym, ap, ◌∙◌, refl, eq-eqb}
+use Rattle.std.proofs.Common.{◌≡◌, ℕ, ◌<◌, ◌==◌, not, Bool, true, false, List, [], ◌∷◌, length, Option, Some, None, is_some, subst, sym, ap, ◌∙◌, refl, eq-eqb}
 use Rattle.std.proofs.lemmas.Bool.{both_ways}
 use Rattle.wdt_units.specs.Have.{HaveFile}
 use Rattle.wdt_codec.specs.declared.frames.Frame.{Frame}
@@ -15,7 +15,7 @@ use Rattle.wdt_sender_fsm.specs.declared.states.SendState.{SendState}
 use Rattle.wdt_sender_fsm.specs.declared.states.SendState.TheVariants as states
 use Rattle.wdt_sender_fsm.specs.Chunks.{different_at, unordered_at}
 use Rattle.wdt_sender_fsm.specs.Faults.{count_fault, has_stranger, is_unexpected, marks_fault}
-use Rattle.wdt_sender_fsm.specs.Outcomes.{Outcome, Rested, Waited, Left, Warned, Failed, GivenUp, Redialed, Introduced, Presented, Greeted, Listed, Planned, Claimed, Emptied, Concluded, Finished, Acknowledged, came_to}
+use Rattle.wdt_sender_fsm.specs.Outcomes.{Outcome, Rested, Waited, Failed, Greeted, came_to}
 use Rattle.wdt_sender_fsm.specs.Phases.{Phase, is_abort, is_named, phase_by, phase_heard}
 use Rattle.wdt_sender_fsm.specs.PlainSender.{PlainSender, lane_at, noted, past_at, state_at, unfinished_blocks}
 use Rattle.wdt_sender_fsm.specs.Reasons as reasons
@@ -52,7 +52,8 @@ judged_keeps answers.Link false true kind e = cc
 judged_keeps answers.Link false false kind e = cc
 judged_keeps answer a b kind e = e
 
-greeted_keeps : (t : PlainSender) (l : ℕ) (ask : Bool) (kind : PeerKind) → (greeted_by t (number l) ask).1.answer ≡ answers.Peer kind → t.answer ≡ answers.Peer kind
+greeted_keeps : (t : PlainSender) (l : ℕ) (ask : Bool) (kind : PeerKind) → (greeted_by t (number l) ask).1.answer ≡ answers.Peer kind
+    → t.answer ≡ answers.Peer kind
 greeted_keeps t l true kind e = judged_keeps t.answer _ _ kind e
 greeted_keeps t l false kind e = judged_keeps t.answer _ _ kind e
 
@@ -63,7 +64,8 @@ data Odd (n l : ℕ) (known : Bool) (st : SendState) (f : Frame) : Type 0 where
   NoPlan : f ≡ frames.Done → not known ≡ true → Odd n l known st f
   Strangers : (ms : List Mark) → f ≡ frames.ErrMarks ms → st ≡ states.ReadReceiverCmd → has_stranger n l ms ≡ true → Odd n l known st f
 
-odd_frame : (n l : ℕ) (known : Bool) (st : SendState) (f : Frame) → is_reading st ≡ true → (is_abort f ≡ false → is_named (row_of st (inputs.Got f)) ≡ true) → is_unexpected n l known (row_of st (inputs.Got f)) ≡ true → Odd n l known st f
+odd_frame : (n l : ℕ) (known : Bool) (st : SendState) (f : Frame) → is_reading st ≡ true → (is_abort f ≡ false → is_named (row_of st (inputs.Got f)) ≡ true)
+    → is_unexpected n l known (row_of st (inputs.Got f)) ≡ true → Odd n l known st f
 odd_frame n l known states.ReadLocalCheckpoint (frames.Abort code) r named u = cc
 odd_frame n l known states.ReadFileChunks (frames.Abort code) r named u = cc
 odd_frame n l known states.ReadReceiverCmd (frames.Abort code) r named u = cc
@@ -75,9 +77,11 @@ odd_frame n l known st f r named u = let x = named refl in cc
 
 -- ---- a turn of the sender's lane
 
-module _ (sounds : SoundLanes) (comes : SenderComes) (hears : (state : SendState) (ask acked : Bool) (frame : Frame) (q : Phase) → phase_heard frame (phase_by ask acked state) ≡ Some q → is_named (row_of state (inputs.Got frame)) ≡ true)
+module _ (sounds : SoundLanes) (comes : SenderComes)
+    (hears : (state : SendState) (ask acked : Bool) (frame : Frame) (q : Phase) → phase_heard frame (phase_by ask acked state) ≡ Some q → is_named (row_of state (inputs.Got frame)) ≡ true)
     (same : (first later : List HaveFile) → first ≡ later → different_at first later ≡ None) where
-  module _ (w : PlainWorld) (l : ℕ) (input : SendIn) (s : IsSound w) (f : Finishing w) (ordered : unordered_at (common w.receiver).have ≡ None) (within : l < length w.pairs) (holds : (pair_at w l).send ≡ SendHas input) where
+  module _ (w : PlainWorld) (l : ℕ) (input : SendIn) (s : IsSound w) (f : Finishing w) (ordered : unordered_at (common w.receiver).have ≡ None)
+      (within : l < length w.pairs) (holds : (pair_at w l).send ≡ SendHas input) where
     belongs : SendBelongs (SendHas input) (lane_at w.sender l)
     belongs = subst (λ (h : SendHold). SendBelongs h (lane_at w.sender l)) holds (s.belongs.send l within)
 
@@ -89,37 +93,48 @@ module _ (sounds : SoundLanes) (comes : SenderComes) (hears : (state : SendState
 
     odd_not : (st : SendState) (fr : Frame) → state_at w.sender l ≡ st → input ≡ inputs.Got fr → Odd (length w.sender.lanes) l (is_some w.sender.have) st fr → ⊥
     odd_not st fr here given (OtherLane m is at other) =
-        both_ways true (sym other ∙ ap not (eq-eqb m.lane.0 l (greeting_right sounds w s.talk l m within (here ∙ at) (has (inputs.Got (frames.Greeting m)) (given ∙ ap inputs.Got is))).0)) refl
-    odd_not st fr here given (NoPlan is none) = both_ways true (sym none ∙ ap not (f.planned (word_finished w l s within (has (inputs.Got frames.Done) (given ∙ ap inputs.Got is))))) refl
+        both_ways true
+        (sym other ∙ ap not (eq-eqb m.lane.0 l (greeting_right sounds w s.talk l m within (here ∙ at) (has (inputs.Got (frames.Greeting m)) (given ∙ ap inputs.Got is))).0)) refl
+    odd_not st fr here given (NoPlan is none) =
+        both_ways true (sym none ∙ ap not (f.planned (word_finished w l s within (has (inputs.Got frames.Done) (given ∙ ap inputs.Got is))))) refl
     odd_not st fr here given (Strangers ms is at strange) =
-        both_ways (has_stranger (length w.sender.lanes) l ms) (marks_right sounds w s.talk l ms within (here ∙ at) (has (inputs.Got (frames.ErrMarks ms)) (given ∙ ap inputs.Got is))).0 strange
+        both_ways (has_stranger (length w.sender.lanes) l ms)
+        (marks_right sounds w s.talk l ms within (here ∙ at) (has (inputs.Got (frames.ErrMarks ms)) (given ∙ ap inputs.Got is))).0 strange
 
     mistake_not : (st : SendState) (kind : PeerKind) → state_at w.sender l ≡ st → is_reading st ≡ true → reasons.Mistakes w.sender (number l) st input kind → ⊥
-    mistake_not st kind here reads (reasons.NoFrame at given is) = send_seen.hands_not comes w l input s.talk f.empty f.planned within holds belongs (inputs.Bad at) given (λ b. b)
+    mistake_not st kind here reads (reasons.NoFrame at given is) =
+        send_seen.hands_not comes w l input s.talk f.empty f.planned within holds belongs (inputs.Bad at) given (λ b. b)
     mistake_not st kind here reads (reasons.NoPlace fr given unexpected is) =
         odd_not st fr here given (odd_frame (length w.sender.lanes) l (is_some w.sender.have) st fr reads
         (λ calm. subst (λ (x : SendState). is_named (row_of x (inputs.Got fr)) ≡ true) here (sends_named hears w l fr s within (has (inputs.Got fr) given) calm))
         (subst (λ (i : SendIn). is_unexpected (length w.sender.lanes) l (is_some w.sender.have) (row_of st i) ≡ true) given unexpected))
     mistake_not st kind here reads (reasons.WrongCount m given at own fault) =
-        none_some (count_fault (past_at w.sender l).claims m.count) kind (greeting_right sounds w s.talk l m within (here ∙ at) (has (inputs.Got (frames.Greeting m)) given)).1 fault
+        none_some (count_fault (past_at w.sender l).claims m.count) kind
+        (greeting_right sounds w s.talk l m within (here ∙ at) (has (inputs.Got (frames.Greeting m)) given)).1 fault
     mistake_not st kind here reads (reasons.WrongMarks ms given at known fault) =
-        none_some (marks_fault w.sender.history ms) kind (marks_right sounds w s.talk l ms within (here ∙ at) (has (inputs.Got (frames.ErrMarks ms)) given)).1 fault
+        none_some (marks_fault w.sender.history ms) kind
+        (marks_right sounds w s.talk l ms within (here ∙ at) (has (inputs.Got (frames.ErrMarks ms)) given)).1 fault
     mistake_not st kind here reads (reasons.WrongOrder have at given is fault kinds) =
-        none_some (unordered_at have) at (ap unordered_at (told_true w l (frames.Chunks have) s within (has (inputs.Got (frames.Chunks have)) given) refl) ∙ ordered) fault
+        none_some (unordered_at have) at
+        (ap unordered_at (told_true w l (frames.Chunks have) s within (has (inputs.Got (frames.Chunks have)) given) refl) ∙ ordered) fault
     mistake_not st kind here reads (reasons.OtherList have first at given is order listed fault kinds) =
-        none_some (different_at first have) at (same first have (f.list first listed ∙ sym (told_true w l (frames.Chunks have) s within (has (inputs.Got (frames.Chunks have)) given) refl))) fault
+        none_some (different_at first have) at
+        (same first have (f.list first listed ∙ sym (told_true w l (frames.Chunks have) s within (has (inputs.Got (frames.Chunks have)) given) refl))) fault
     mistake_not st kind here reads (reasons.TooEarly given known early kinds) =
         both_ways (unfinished_blocks w.sender == 0) early (ap (λ (n : ℕ). n == 0) (never_early w l s f within (has (inputs.Got frames.Done) given)))
 
-    failing : (answer : EndAnswer) (mute : Bool) (kind : PeerKind) → reasons.Fails w.sender (number l) input answer mute → (came_to w.sender (number l) (Failed answer mute)).1.answer ≡ answers.Peer kind → w.sender.answer ≡ answers.Peer kind
-    failing answer mute kind (reasons.OfMemory m going given here is) e = send_seen.hands_not comes w l input s.talk f.empty f.planned within holds belongs inputs.Starved given (λ b. b)
+    failing : (answer : EndAnswer) (mute : Bool) (kind : PeerKind) → reasons.Fails w.sender (number l) input answer mute
+        → (came_to w.sender (number l) (Failed answer mute)).1.answer ≡ answers.Peer kind → w.sender.answer ≡ answers.Peer kind
+    failing answer mute kind (reasons.OfMemory m going given here is) e =
+        send_seen.hands_not comes w l input s.talk f.empty f.planned within holds belongs inputs.Starved given (λ b. b)
     failing answer mute kind (reasons.OfReceiver st code serves reads given) e = cc
     failing answer mute kind (reasons.OfSource true serves given) e = cc
     failing answer mute kind (reasons.OfSource false serves given) e = cc
     failing answer mute kind (reasons.OfPlan refused serves refuses) e = cc
     failing answer mute kind (reasons.OfPeer st found serves reads mistake) e = absurd (mistake_not st found serves.here reads mistake)
 
-    outcome_keeps : (o : Outcome) (kind : PeerKind) → reasons.ComesOf w.sender (number l) input o → (came_to w.sender (number l) o).1.answer ≡ answers.Peer kind → w.sender.answer ≡ answers.Peer kind
+    outcome_keeps : (o : Outcome) (kind : PeerKind) → reasons.ComesOf w.sender (number l) input o
+        → (came_to w.sender (number l) o).1.answer ≡ answers.Peer kind → w.sender.answer ≡ answers.Peer kind
     outcome_keeps Rested kind of e = e
     outcome_keeps Waited kind of e = e
     outcome_keeps (Failed answer mute) kind of e = failing answer mute kind of e
@@ -131,19 +146,27 @@ module _ (sounds : SoundLanes) (comes : SenderComes) (hears : (state : SendState
 
   -- ---- whatever happens
 
-  pub faultless_after : (w : PlainWorld) (e : WorldEvent) (kind : PeerKind) → IsSound w → Finishing w → unordered_at (common w.receiver).have ≡ None → lane_of e < length w.pairs → (happens w e).sender.answer ≡ answers.Peer kind → w.sender.answer ≡ answers.Peer kind
-  faultless_after w (Sends l lost) kind s f ordered within = send_cases (λ (v : PlainWorld). v.sender.answer ≡ answers.Peer kind → w.sender.answer ≡ answers.Peer kind) w l lost (λ act is e. e) (λ input is. turn_keeps w l input s f ordered within is kind)
-  faultless_after w (Receives l broken) kind s f ordered within = recv_cases (λ (v : PlainWorld). v.sender.answer ≡ answers.Peer kind → w.sender.answer ≡ answers.Peer kind) w l broken (λ e. e) (λ act is e. e) (λ put hands e. e)
+  pub faultless_after : (w : PlainWorld) (e : WorldEvent) (kind : PeerKind) → IsSound w → Finishing w → unordered_at (common w.receiver).have ≡ None
+      → lane_of e < length w.pairs → (happens w e).sender.answer ≡ answers.Peer kind → w.sender.answer ≡ answers.Peer kind
+  faultless_after w (Sends l lost) kind s f ordered within =
+      send_cases (λ (v : PlainWorld). v.sender.answer ≡ answers.Peer kind → w.sender.answer ≡ answers.Peer kind) w l lost (λ act is e. e)
+      (λ input is. turn_keeps w l input s f ordered within is kind)
+  faultless_after w (Receives l broken) kind s f ordered within =
+      recv_cases (λ (v : PlainWorld). v.sender.answer ≡ answers.Peer kind → w.sender.answer ≡ answers.Peer kind) w l broken (λ e. e) (λ act is e. e)
+      (λ put hands e. e)
   faultless_after w (Cut l down up) kind s f ordered within = λ e. e
   faultless_after w (Deny l) kind s f ordered within = λ e. e
   faultless_after w (Refuse l) kind s f ordered within = λ e. e
 
 -- ---- worlds behind many events
 
-pub all_faultless : (good : PlainWorld → Type 0) → ((w : PlainWorld) → good w → IsSound w × Finishing w) → ((w : PlainWorld) (e : WorldEvent) → good w → lane_of e < length w.pairs → good (happens w e))
-    → ((w : PlainWorld) (e : WorldEvent) (kind : PeerKind) → IsSound w → Finishing w → unordered_at (common w.receiver).have ≡ None → lane_of e < length w.pairs → (happens w e).sender.answer ≡ answers.Peer kind
+pub all_faultless : (good : PlainWorld → Type 0) → ((w : PlainWorld) → good w → IsSound w × Finishing w)
+    → ((w : PlainWorld) (e : WorldEvent) → good w → lane_of e < length w.pairs → good (happens w e))
+    →
+    ((w : PlainWorld) (e : WorldEvent) (kind : PeerKind) → IsSound w → Finishing w → unordered_at (common w.receiver).have ≡ None → lane_of e < length w.pairs → (happens w e).sender.answer ≡ answers.Peer kind
     → w.sender.answer ≡ answers.Peer kind)
-    → (es : List WorldEvent) (w : PlainWorld) (kind : PeerKind) → good w → unordered_at (common w.receiver).have ≡ None → AreOfLanes (length w.pairs) es → (all_happen w es).sender.answer ≡ answers.Peer kind → w.sender.answer ≡ answers.Peer kind
+    → (es : List WorldEvent) (w : PlainWorld) (kind : PeerKind) → good w → unordered_at (common w.receiver).have ≡ None → AreOfLanes (length w.pairs) es →
+    (all_happen w es).sender.answer ≡ answers.Peer kind → w.sender.answer ≡ answers.Peer kind
 all_faultless good parts keeps one [] w kind g ordered of e = e
 all_faultless good parts keeps one (d ∷ es) w kind g ordered of e =
     let p = parts w g in

@@ -57,7 +57,8 @@ marks_close q p l (m ∷ ms) e = go (marks_close q (past_after q p (global l m))
 pub claim_closed : (q : ℕ) (p : LanePast) (l : Lane) (b : Block) → (past_after q p (events.Claim l b)).claims.closed ≡ p.claims.closed
 claim_closed q p l b = go (l.0 == q) where
   go : (x : Bool)
-      → (if x then record { kept = p.claims.kept ++ b ∷ []; sure = p.claims.sure; held = true; closed = p.claims.closed } else p.claims).closed ≡ p.claims.closed
+      →
+      (if x then record { kept = p.claims.kept ++ b ∷ []; sure = p.claims.sure; held = true; closed = p.claims.closed } else p.claims).closed ≡ p.claims.closed
   go true = refl
   go false = refl
 

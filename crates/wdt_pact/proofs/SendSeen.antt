@@ -24,7 +24,7 @@ use Rattle.wdt_sender_fsm.specs.declared.states.SendLane.{SendLane}
 use Rattle.wdt_sender_fsm.specs.declared.states.SendState.{SendState}
 use Rattle.wdt_sender_fsm.specs.declared.states.SendState.TheVariants as states
 use Rattle.wdt_sender_fsm.specs.Outcomes.{Outcome, Rested, Waited, Left, Warned, Failed, GivenUp, Redialed, Introduced, Presented, Greeted, Listed, Planned, Claimed, Emptied, Concluded, Finished, Acknowledged, came_to}
-use Rattle.wdt_sender_fsm.specs.Phases.{Phase, Listing, Told, Sending as SendingPhase, over_if}
+use Rattle.wdt_sender_fsm.specs.Phases.{Listing, Told, Sending as SendingPhase, over_if}
 use Rattle.wdt_sender_fsm.specs.Places.{least_of, queued}
 use Rattle.wdt_sender_fsm.specs.PlainSender.{PlainSender, blocks_of, failed, goes, header_of, is_closed, is_ended, lane_at, least_queued, listed_blocks, noted, past_at, size_of_tree, state_at, waiting_blocks, with_lane}
 use Rattle.wdt_sender_fsm.specs.Reasons as reasons
@@ -38,10 +38,9 @@ use Rattle.wdt_pact.specs.Conversation.{Conversation, common, receiving, send_in
 use Rattle.wdt_pact.specs.Finishing.{marked_in, says_done, sends_at}
 use Rattle.wdt_pact.specs.Links.{Link}
 use Rattle.wdt_pact.specs.Pairs.{SendHold, SendDoes, SendHas}
-use Rattle.wdt_pact.specs.Stances.{IsTalking, Stance, Talks, is_late, send_stance, stand}
+use Rattle.wdt_pact.specs.Stances.{IsTalking, send_stance, stand}
 use Rattle.wdt_pact.specs.World.{PlainWorld, number, pair_at}
-use Rattle.wdt_pact.proofs.Busy.{IsEarly, sending_early, told_early}
-use Rattle.wdt_pact.proofs.Links.{is_first}
+use Rattle.wdt_pact.proofs.Busy.{sending_early, told_early}
 use Rattle.wdt_pact.proofs.Rows.{past_of-append, row_at}
 use Rattle.wdt_pact.proofs.SendAll.{has_row}
 use Rattle.wdt_pact.proofs.SendFrees.{IsFree, past_from-append, same_waiting}

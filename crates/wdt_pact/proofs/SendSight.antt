@@ -1,54 +1,17 @@
 -- What a step of the sender's lane comes to, as the lanes together see it.
-use Rattle.std.proofs.Common.{◌≡◌, inl, inr, ℕ, ◌<◌, Bool, true, false, if◌then◌else◌, List, [], ◌∷◌, ◌++◌, length, Option, Some, None, is_some, subst, sym, ap, ◌∙◌, refl, arith, append-nil, eq-eqb}
-use Rattle.std.proofs.lemmas.Bool.{both_ways, cases_eq, ne_eqb}
-use Rattle.std.proofs.lemmas.List.{length-map, length-set, take_all}
-use Rattle.wdt_units.specs.declared.blocks.Block.{Block}
-use Rattle.wdt_units.specs.declared.blocks.Header.{Header}
-use Rattle.wdt_units.specs.declared.numbers.Conn.{Conn}
-use Rattle.wdt_units.specs.declared.numbers.Lane.{Lane}
-use Rattle.wdt_claims.specs.LaneWords.{cut_to}
-use Rattle.wdt_codec.specs.declared.frames.Frame.{Frame}
-use Rattle.wdt_codec.specs.declared.frames.Frame.TheVariants as frames
-use Rattle.wdt_codec.specs.declared.frames.Mark.{Mark}
-use Rattle.wdt_codec.specs.declared.frames.Settings.{Settings}
-use Rattle.wdt_sender_fsm.specs.declared.acts.SendAct.{SendAct}
-use Rattle.wdt_sender_fsm.specs.declared.acts.SendAct.TheVariants as acts
-use Rattle.wdt_sender_fsm.specs.declared.answers.EndAnswer.{EndAnswer}
-use Rattle.wdt_sender_fsm.specs.declared.answers.EndAnswer.TheVariants as answers
-use Rattle.wdt_sender_fsm.specs.declared.events.SendEvent.{SendEvent}
-use Rattle.wdt_sender_fsm.specs.declared.events.SendEvent.TheVariants as events
+use Rattle.std.proofs.Common.{◌≡◌, ℕ, true, false, [], Option}
 use Rattle.wdt_sender_fsm.specs.declared.inputs.SendIn.{SendIn}
-use Rattle.wdt_sender_fsm.specs.declared.inputs.SendIn.TheVariants as inputs
-use Rattle.wdt_sender_fsm.specs.declared.states.SendLane.{SendLane}
-use Rattle.wdt_sender_fsm.specs.declared.states.SendState.{SendState}
-use Rattle.wdt_sender_fsm.specs.declared.states.SendState.TheVariants as states
-use Rattle.wdt_sender_fsm.specs.Outcomes.{Outcome, Rested, Waited, Left, Warned, Failed, GivenUp, Redialed, Introduced, Presented, Greeted, Listed, Planned, Claimed, Emptied, Concluded, Finished, Acknowledged, came_to}
-use Rattle.wdt_sender_fsm.specs.Phases.{Phase, Listing, Told, Sending as SendingPhase, over_if}
-use Rattle.wdt_sender_fsm.specs.Places.{least_of, queued}
-use Rattle.wdt_sender_fsm.specs.PlainSender.{PlainSender, blocks_of, failed, goes, header_of, is_closed, is_ended, lane_at, least_queued, listed_blocks, noted, past_at, size_of_tree, state_at, waiting_blocks, with_lane}
-use Rattle.wdt_sender_fsm.specs.Reasons as reasons
-use Rattle.wdt_sender_fsm.specs.Reasons.{Comes, ComesOf, WasOver, WasStray, WasSettled}
-use Rattle.wdt_sender_fsm.specs.Reasons.{OfMemory, OfReceiver, OfSource, OfPlan, OfPeer, AtFirst, ByNoLink, ByLoss, BySize, ByBlock, ByMarks, Behind, AtOnce}
-use Rattle.wdt_sender_fsm.specs.Rows.{is_allowed}
-use Rattle.wdt_sender_fsm.specs.SenderHistory.{LanePast, past_after, past_from, past_of}
-use Rattle.wdt_sender_fsm.specs.Turn.{Step, globals, greeted_by, next_conn, send_turn, with_plan}
-use Rattle.wdt_pact.specs.Belongs.{SendBelongs}
-use Rattle.wdt_pact.specs.Conversation.{Conversation, common, receiving, send_in_hand, sending, sent_header}
+use Rattle.wdt_sender_fsm.specs.Phases.{Phase}
+use Rattle.wdt_sender_fsm.specs.PlainSender.{is_closed, lane_at, past_at, waiting_blocks}
+use Rattle.wdt_sender_fsm.specs.Turn.{Step}
+use Rattle.wdt_pact.specs.Conversation.{common, send_in_hand}
 use Rattle.wdt_pact.specs.Finishing.{marked_in, says_done, sends_at}
 use Rattle.wdt_pact.specs.Links.{Link}
-use Rattle.wdt_pact.specs.Pairs.{SendHold, SendDoes, SendHas}
-use Rattle.wdt_pact.specs.Stances.{IsTalking, Stance, Talks, is_late, send_stance, stand}
-use Rattle.wdt_pact.specs.World.{PlainWorld, number, pair_at}
-use Rattle.wdt_pact.proofs.Busy.{IsEarly, sending_early, told_early}
+use Rattle.wdt_pact.specs.Pairs.{SendDoes, SendHas}
+use Rattle.wdt_pact.specs.Stances.{IsTalking, Stance, Talks, is_late, send_stance}
+use Rattle.wdt_pact.specs.World.{PlainWorld}
+use Rattle.wdt_pact.proofs.Busy.{IsEarly}
 use Rattle.wdt_pact.proofs.Links.{is_first}
-use Rattle.wdt_pact.proofs.Rows.{past_of-append, row_at}
-use Rattle.wdt_pact.proofs.SendAll.{has_row}
-use Rattle.wdt_pact.proofs.SendFrees.{IsFree, past_from-append, same_waiting}
-use Rattle.wdt_pact.proofs.SendLaw.{put_is}
-use Rattle.wdt_pact.proofs.SendMarks.{claim_closed, empty_sum, marks_close, none_least, none_of, none_some, or_none}
-use Rattle.wdt_pact.proofs.SendMoves.{has_lives, splits_all}
-use Rattle.wdt_pact.proofs.SendPoints.{free_block, free_marks, free_size}
-use Rattle.wdt_pact.proofs.SendSteps.{lane_acked}
 
 -- ---- what a step comes to
 

@@ -1,40 +1,32 @@
 -- No world stands still before all its lanes have stopped.
-use Rattle.std.proofs.Common.{◌≡◌, ◌≢◌, ◌⊎◌, inl, inr, ℕ, zero, suc, ◌<◌, ◌≤◌, ◌==◌, ◌||◌, ◌&&◌, not, Bool, true, false, if◌then◌else◌, List, [], ◌∷◌, ◌++◌, length, filter, Option, Some, None, subst, sym, ap, ◌∙◌, refl, arith, append-nil, append_assoc, eq-eqb, eqb-true}
+use Rattle.std.proofs.Common.{◌≡◌, ◌⊎◌, inl, inr, ℕ, zero, suc, ◌<◌, ◌≤◌, ◌==◌, ◌||◌, ◌&&◌, not, Bool, true, false, if◌then◌else◌, List, [], ◌∷◌, ◌++◌, length, filter, subst, sym, ap, ◌∙◌, refl, arith, append-nil, append_assoc, eq-eqb, eqb-true}
 use Rattle.std.proofs.lemmas.Bool.{and_from, both_ways, cases_lt, false_from_ne_true, or_cases}
 use Rattle.std.proofs.lemmas.List.Folds.{list_any-append}
 use Rattle.wdt_units.specs.declared.blocks.Block.{Block}
-use Rattle.wdt_codec.specs.declared.frames.Frame.{Frame}
 use Rattle.wdt_codec.specs.declared.frames.Frame.TheVariants as frames
 use Rattle.wdt_codec.specs.declared.frames.Settings.{Settings}
-use Rattle.wdt_sender_fsm.specs.declared.acts.SendAct.TheVariants as send_acts
-use Rattle.wdt_sender_fsm.specs.declared.answers.EndAnswer.{EndAnswer}
 use Rattle.wdt_sender_fsm.specs.Rules.{by_voice, every, is_failure}
-use Rattle.wdt_receiver_fsm.specs.declared.acts.RecvAct.{RecvAct}
 use Rattle.wdt_receiver_fsm.specs.declared.acts.RecvAct.TheVariants as acts
 use Rattle.wdt_receiver_fsm.specs.declared.events.RecvEvent.{RecvEvent}
 use Rattle.wdt_receiver_fsm.specs.declared.events.RecvEvent.TheVariants as events
 use Rattle.wdt_receiver_fsm.specs.declared.inputs.RecvIn.{RecvIn}
 use Rattle.wdt_receiver_fsm.specs.declared.inputs.RecvIn.TheVariants as inputs
-use Rattle.wdt_receiver_fsm.specs.declared.states.RecvState.{RecvState}
 use Rattle.wdt_receiver_fsm.specs.declared.states.RecvState.TheVariants as states
 use Rattle.wdt_receiver_fsm.specs.Legal.{IsAllowed, IsLegal, Terms, legal_from}
 use Rattle.wdt_receiver_fsm.specs.Outcomes as outcomes
 use Rattle.wdt_receiver_fsm.specs.Outcomes.{ComesOf, Outcome, Rested, Left, Warned, Failed, GivenUp, Listened, Linked, Greeted, Listed, ReadOn, Sized, Begun, Taken, Concluded, Told, Waited, Ended, Acknowledged, came_to}
 use Rattle.wdt_receiver_fsm.specs.Outcomes.{ByDone, ByWait, ByWaking, OfMemory, OfSender, OfPeer, OfShort, OfMake, OfWrite, OfLog, OfFinish}
-use Rattle.wdt_receiver_fsm.specs.Plan.{EndsIn}
 use Rattle.wdt_receiver_fsm.specs.PlainReceiver.{PlainReceiver, can_finish, failed, has_finish, lane_at, past_at, state_at, untold_at}
-use Rattle.wdt_receiver_fsm.specs.Ready.{is_busy, is_confirmed, is_known_closed, is_ready, is_untold, rests}
-use Rattle.wdt_receiver_fsm.specs.Receiver.{Fares, IsReceiver, terms_of}
+use Rattle.wdt_receiver_fsm.specs.Ready.{is_busy, is_confirmed, is_known_closed, is_untold, rests}
+use Rattle.wdt_receiver_fsm.specs.Receiver.{Fares, terms_of}
 use Rattle.wdt_receiver_fsm.specs.ReceiverHistory.{EndPast, RecvPast, end_of, end_of-append, has_finish_after, has_quit_after, is_acked_after, past_of, past_of-append, past_of-none}
 use Rattle.wdt_receiver_fsm.specs.Sets.{has, numbers}
-use Rattle.wdt_receiver_fsm.specs.Turn.{Given, Put, Step, begins_by, greets_by, leaves, meets, tells_failure, turn_plan}
+use Rattle.wdt_receiver_fsm.specs.Turn.{Given, Step, begins_by, greets_by, leaves, meets, tells_failure, turn_plan}
 use Rattle.wdt_receiver_fsm.proofs.ForCallers.{end_comes}
-use Rattle.wdt_sender_fsm.specs.Places.{tabulate}
 use Rattle.wdt_pact.specs.Belongs.{RecvBelongs}
-use Rattle.wdt_pact.specs.Conversation.{Conversation}
 use Rattle.wdt_pact.specs.Fitting.{IsSound}
-use Rattle.wdt_pact.specs.Pairs.{Pair, RecvHold, RecvDoes, RecvHas, RecvTook, SendHold, recv_stops, send_stops}
-use Rattle.wdt_pact.specs.Progress.{GoesOn, HasStopped, Moves, Wakes, is_parked, recv_moves, send_moves}
+use Rattle.wdt_pact.specs.Pairs.{RecvHold, RecvDoes, recv_stops}
+use Rattle.wdt_pact.specs.Progress.{GoesOn, HasStopped, Moves, Wakes, is_parked}
 use Rattle.wdt_pact.specs.World.{PlainWorld, number, pair_at, recv_turn}
 use Rattle.wdt_pact.proofs.Finishing.{every_at}
 use Rattle.wdt_pact.proofs.Moving.{lane_moves}
@@ -58,7 +50,8 @@ every_from (suc n) f e = and_from (every n f) (f n) (every_from n f (λ k small.
 none_filter : (f : ℕ → Bool) (xs : List ℕ) (k : ℕ) → filter f xs ≡ [] → has xs k ≡ true → f k ≡ false
 none_filter f [] k e h = cc
 none_filter f (x ∷ xs) k e h = go (f x) refl e (none_filter f xs k) (or_cases (x == k) (has xs k) h) where
-  go : (b : Bool) → f x ≡ b → (if b then x ∷ filter f xs else filter f xs) ≡ [] → (filter f xs ≡ [] → has xs k ≡ true → f k ≡ false) → ((x == k) ≡ true) ⊎ (has xs k ≡ true) → f k ≡ false
+  go : (b : Bool) → f x ≡ b → (if b then x ∷ filter f xs else filter f xs) ≡ [] → (filter f xs ≡ [] → has xs k ≡ true → f k ≡ false)
+      → ((x == k) ≡ true) ⊎ (has xs k ≡ true) → f k ≡ false
   go true is y more z = cc
   go false is y more (inl z) = ap f (sym (eqb-true x k z)) ∙ is
   go false is y more (inr z) = more y z
@@ -81,7 +74,8 @@ module _ (t : Terms) (q : ℕ) where
   abbrev Over : List RecvEvent → Type 0
   Over g = ((past_of g q).has_quit || (past_of g q).is_acked) ≡ true → (end_of g).has_finish ≡ true
 
-  by_entry : (g : List RecvEvent) (quit acked : Bool) (e : RecvEvent) → IsAllowed t g e → ((quit || acked) ≡ true → (end_of g).has_finish ≡ true) → (has_quit_after q quit e || is_acked_after q acked e) ≡ true → has_finish_after (end_of g).has_finish e ≡ true
+  by_entry : (g : List RecvEvent) (quit acked : Bool) (e : RecvEvent) → IsAllowed t g e → ((quit || acked) ≡ true → (end_of g).has_finish ≡ true)
+      → (has_quit_after q quit e || is_acked_after q acked e) ≡ true → has_finish_after (end_of g).has_finish e ≡ true
   by_entry g quit acked (events.Quit k) a f x = a.fits.0
   by_entry g quit acked (events.Acked k) a f x = a.fits
   by_entry g quit acked events.Finish a f x = refl
@@ -96,7 +90,9 @@ module _ (t : Terms) (q : ℕ) where
 
   over_finished : (g : List RecvEvent) → IsLegal t g → Over g
   unfolding IsLegal
-  over_finished g legal = over_from [] g (λ x. absurd (both_ways ((past_of [] q).has_quit || (past_of [] q).is_acked) (ap (λ (p : RecvPast). p.has_quit || p.is_acked) (past_of-none q)) x)) legal
+  over_finished g legal =
+      over_from [] g
+      (λ x. absurd (both_ways ((past_of [] q).has_quit || (past_of [] q).is_acked) (ap (λ (p : RecvPast). p.has_quit || p.is_acked) (past_of-none q)) x)) legal
 
 -- ---- a lane that waits, where all others wait or have stopped
 
@@ -112,7 +108,9 @@ stopped_at : (h : RecvHold) (r : PlainReceiver) (k : ℕ) → recv_stops h ≡ t
 stopped_at (RecvDoes acts.Stop) r k e b = b
 stopped_at h r k e b = cc
 
-module _ (w : PlainWorld) (s : IsSound w) (all : (k : ℕ) → k < length w.pairs → Rests (pair_at w k).recv) (l : ℕ) (within : l < length w.pairs) (waits : is_parked (pair_at w l).recv ≡ true) (sound : is_failure w.receiver.answer ≡ false) (first : has_finish w.receiver ≡ false) (none : untold_at w.receiver l ≡ []) where
+module _ (w : PlainWorld) (s : IsSound w) (all : (k : ℕ) → k < length w.pairs → Rests (pair_at w k).recv) (l : ℕ) (within : l < length w.pairs)
+    (waits : is_parked (pair_at w l).recv ≡ true) (sound : is_failure w.receiver.answer ≡ false) (first : has_finish w.receiver ≡ false)
+    (none : untold_at w.receiver l ≡ []) where
   here : state_at w.receiver l ≡ states.WaitForFinish
   here = parked_at (pair_at w l).recv w.receiver l waits (s.belongs.recv l within)
 
@@ -127,7 +125,8 @@ module _ (w : PlainWorld) (s : IsSound w) (all : (k : ℕ) → k < length w.pair
     | inl x ↦ inl (recv_fares w k states.WaitForFinish s.talk small (parked_at (pair_at w k).recv w.receiver k x (s.belongs.recv k small))).0.idle
     | inr x ↦ ended (recv_fares w k states.Ended s.talk small (stopped_at (pair_at w k).recv w.receiver k x (s.belongs.recv k small)))
   ] where
-    ended : Fares (is_failure w.receiver.answer) states.Ended (lane_at w.receiver k) (past_at w.receiver k) (end_of w.receiver.history) → ((past_at w.receiver k).is_idle ≡ true) ⊎ ((past_at w.receiver k).is_closed ≡ true)
+    ended : Fares (is_failure w.receiver.answer) states.Ended (lane_at w.receiver k) (past_at w.receiver k) (end_of w.receiver.history)
+        → ((past_at w.receiver k).is_idle ≡ true) ⊎ ((past_at w.receiver k).is_closed ≡ true)
     ended (inl x) = absurd (both_ways (is_failure w.receiver.answer) sound x)
     ended (inr (inl x)) = inr x
     ended (inr (inr (inl x))) = absurd (not_over k (or_left (past_at w.receiver k).has_quit (past_at w.receiver k).is_acked x))
@@ -146,16 +145,20 @@ module _ (w : PlainWorld) (s : IsSound w) (all : (k : ℕ) → k < length w.pair
       | inr z ↦ absurd (both_ways (past_at w.receiver l).is_idle z.0 fares.0.idle)
     ]
     told shut false false x y =
-        absurd (both_ways (is_untold w.receiver.history l k) (none_filter (is_untold w.receiver.history l) (numbers (length w.receiver.lanes)) k none (in_numbers (length w.receiver.lanes) k small))
+        absurd
+        (both_ways (is_untold w.receiver.history l k) (none_filter (is_untold w.receiver.history l) (numbers (length w.receiver.lanes)) k none (in_numbers (length w.receiver.lanes) k small))
         (ap (λ (b : Bool). b && not (is_confirmed w.receiver.history k) && not (has (past_at w.receiver l).told k)) shut ∙ (ap (λ (b : Bool). not b && not (has (past_at w.receiver l).told k)) x ∙ ap not y)))
 
     go : (b : Bool) → (past_at w.receiver k).is_closed ≡ b → is_known_closed w.receiver.history k ≡ true
-    go true is = or_right (not (past_at w.receiver k).is_closed) (is_confirmed w.receiver.history k) (told is (is_confirmed w.receiver.history k) (has (past_at w.receiver l).told k) refl refl)
+    go true is =
+        or_right (not (past_at w.receiver k).is_closed) (is_confirmed w.receiver.history k)
+        (told is (is_confirmed w.receiver.history k) (has (past_at w.receiver l).told k) refl refl)
     go false is = or_left (not (past_at w.receiver k).is_closed) (is_confirmed w.receiver.history k) (ap not is)
 
   pub all_ready : can_finish w.receiver ≡ true
   all_ready =
-      and_from (every (length w.receiver.lanes) (rests w.receiver.history) && not (every (length w.receiver.lanes) (is_busy w.receiver.history))) (every (length w.receiver.lanes) (is_known_closed w.receiver.history))
+      and_from (every (length w.receiver.lanes) (rests w.receiver.history) && not (every (length w.receiver.lanes) (is_busy w.receiver.history)))
+      (every (length w.receiver.lanes) (is_known_closed w.receiver.history))
       (and_from (every (length w.receiver.lanes) (rests w.receiver.history)) (not (every (length w.receiver.lanes) (is_busy w.receiver.history)))
       (every_from (length w.receiver.lanes) (rests w.receiver.history) (λ k small. elim (idle_or_closed k (in_pairs k small)) [ inl x ↦ or_left _ _ x | inr x ↦ or_right _ _ x ]))
       (ap not (false_from_ne_true (every (length w.receiver.lanes) (is_busy w.receiver.history)) busy)))
@@ -182,9 +185,11 @@ begun_act t l b (suc left) = refl
 woken_is : {P : Type 0} (i : RecvIn) → Given inputs.Woken ≡ Given i → is_woken i ≡ false → P
 woken_is i e n = absurd (both_ways (is_woken i) n (ap is_woken (sym (same_input inputs.Woken i e))))
 
-module _ (w : PlainWorld) (s : IsSound w) (all : (k : ℕ) → k < length w.pairs → Rests (pair_at w k).recv) (l : ℕ) (within : l < length w.pairs) (waits : is_parked (pair_at w l).recv ≡ true) where
+module _ (w : PlainWorld) (s : IsSound w) (all : (k : ℕ) → k < length w.pairs → Rests (pair_at w k).recv) (l : ℕ) (within : l < length w.pairs)
+    (waits : is_parked (pair_at w l).recv ≡ true) where
   -- it doesn't wait on
-  waits_not : {P : Type 0} (t : PlainReceiver) → outcomes.Idles w.receiver (number l) (Given inputs.Woken) t → has_finish t ≡ false → can_finish t ≡ false → untold_at t l ≡ [] → P
+  waits_not : {P : Type 0} (t : PlainReceiver) → outcomes.Idles w.receiver (number l) (Given inputs.Woken) t → has_finish t ≡ false → can_finish t ≡ false
+      → untold_at t l ≡ [] → P
   waits_not t (ByDone serves sized given is) first unready none = woken_is (inputs.Got frames.Done) given refl
   waits_not t (ByWait serves given is) first unready none = woken_is inputs.Wrote given refl
   waits_not t (ByWaking serves given is) first unready none =
@@ -234,7 +239,8 @@ module _ (w : PlainWorld) (s : IsSound w) where
     below : m < length w.pairs
     below = omega (arith, small)
 
-    go : Some-goes ⊎ ((k : ℕ) → k < m → (is_parked (pair_at w k).recv ≡ true) ⊎ HasStopped w k) → Moves (pair_at w m) → Some-goes ⊎ ((k : ℕ) → k < suc m → (is_parked (pair_at w k).recv ≡ true) ⊎ HasStopped w k)
+    go : Some-goes ⊎ ((k : ℕ) → k < m → (is_parked (pair_at w k).recv ≡ true) ⊎ HasStopped w k) → Moves (pair_at w m)
+        → Some-goes ⊎ ((k : ℕ) → k < suc m → (is_parked (pair_at w k).recv ≡ true) ⊎ HasStopped w k)
     go (inl x) y = inl x
     go (inr x) (inl y) = inl (m, below, inl y)
     go (inr x) (inr (inl y)) = inl (m, below, inr (inl y))
@@ -242,7 +248,8 @@ module _ (w : PlainWorld) (s : IsSound w) where
     go (inr x) (inr (inr (inr y))) = inr (one_more (λ (k : ℕ). (is_parked (pair_at w k).recv ≡ true) ⊎ HasStopped w k) m x (inr y))
 
   -- where none can, one of those that wait goes on, or all have stopped
-  waiting : ((k : ℕ) → k < length w.pairs → (is_parked (pair_at w k).recv ≡ true) ⊎ HasStopped w k) → (m : ℕ) → m ≤ length w.pairs → Some-goes ⊎ ((k : ℕ) → k < m → HasStopped w k)
+  waiting : ((k : ℕ) → k < length w.pairs → (is_parked (pair_at w k).recv ≡ true) ⊎ HasStopped w k) → (m : ℕ) → m ≤ length w.pairs
+      → Some-goes ⊎ ((k : ℕ) → k < m → HasStopped w k)
   waiting all zero small = inr (λ k x. absurd (omega (arith, x)))
   waiting all (suc m) small = go (waiting all m (omega (arith, small))) (all m below) where
     below : m < length w.pairs
@@ -251,7 +258,8 @@ module _ (w : PlainWorld) (s : IsSound w) where
     rest : (k : ℕ) → k < length w.pairs → Rests (pair_at w k).recv
     rest k b = elim (all k b) [ inl x ↦ inl x | inr x ↦ inr x.1 ]
 
-    go : Some-goes ⊎ ((k : ℕ) → k < m → HasStopped w k) → (is_parked (pair_at w m).recv ≡ true) ⊎ HasStopped w m → Some-goes ⊎ ((k : ℕ) → k < suc m → HasStopped w k)
+    go : Some-goes ⊎ ((k : ℕ) → k < m → HasStopped w k) → (is_parked (pair_at w m).recv ≡ true) ⊎ HasStopped w m
+        → Some-goes ⊎ ((k : ℕ) → k < suc m → HasStopped w k)
     go (inl x) y = inl x
     go (inr x) (inl y) = inl (m, below, inr (inr (y, wakes w s rest m below y)))
     go (inr x) (inr y) = inr (one_more (HasStopped w) m x y)

@@ -1,5 +1,5 @@
 -- Whatever happens to a world, event after event, it stays sound, and its finish as it must be.
-use Rattle.std.proofs.Common.{◌≡◌, ℕ, zero, suc, ◌+◌, ◌-◌, ◌^◌, ◌<◌, ◌≤◌, ◌||◌, Bool, true, false, List, [], ◌∷◌, length, replicate, slice_get, Option, Some, None, cond, count_by, subst, sym, ap, ◌∙◌, refl, append-nil, arith}
+use Rattle.std.proofs.Common.{◌≡◌, ℕ, zero, suc, ◌+◌, ◌-◌, ◌^◌, ◌<◌, ◌≤◌, Bool, true, false, List, [], ◌∷◌, length, replicate, slice_get, Some, cond, count_by, subst, sym, ap, ◌∙◌, refl, append-nil, arith}
 use Rattle.std.proofs.lemmas.List.{length-replicate, length-set}
 use Rattle.std.proofs.lemmas.List.Sums.{sum_by-append, sum_by-cons}
 use Rattle.wdt_units.specs.declared.blocks.Header.{Header}
@@ -13,25 +13,22 @@ use Rattle.wdt_logfmt.specs.View.{Meaning}
 use Rattle.wdt_tree.specs.declared.entry.Entry.{Entry}
 use Rattle.wdt_sender_fsm.specs.declared.inputs.SendIn.TheVariants as inputs
 use Rattle.wdt_sender_fsm.specs.declared.states.SendState.{SendState}
-use Rattle.wdt_sender_fsm.specs.declared.states.SendState.TheVariants as states
-use Rattle.wdt_sender_fsm.specs.Phases.{Phase, is_abort, is_named, phase_by, phase_heard}
+use Rattle.wdt_sender_fsm.specs.Phases.{Phase, is_named, phase_by, phase_heard}
 use Rattle.wdt_sender_fsm.specs.Places.{tabulate}
-use Rattle.wdt_sender_fsm.specs.PlainSender.{lane_at, new_lane, opened, past_at, state_at, unfinished_blocks}
-use Rattle.wdt_sender_fsm.specs.Rows.{is_reading, row_of}
+use Rattle.wdt_sender_fsm.specs.PlainSender.{new_lane, opened, unfinished_blocks}
+use Rattle.wdt_sender_fsm.specs.Rows.{row_of}
 use Rattle.wdt_sender_fsm.specs.Sender.{IsSender}
 use Rattle.wdt_sender_fsm.specs.SenderHistory.{past_of}
 use Rattle.wdt_sender_fsm.specs.Writes.{IsLawful}
 use Rattle.wdt_receiver_fsm.specs.PlainReceiver as recv
 use Rattle.wdt_receiver_fsm.specs.PlainReceiver.{have_now}
 use Rattle.wdt_receiver_fsm.specs.Receiver.{IsReceiver}
-use Rattle.wdt_pact.specs.Belongs.{SendBelongs}
-use Rattle.wdt_pact.specs.Conversation.{AllTell, HeardUp, IsWord, Tells, common, is_send_out, receiving, sending, upward_by}
+use Rattle.wdt_pact.specs.Conversation.{common, receiving, sending}
 use Rattle.wdt_pact.specs.Finishing.{Finishing}
 use Rattle.wdt_pact.specs.Fitting.{AreOfLanes, IsSound, lane_of}
 use Rattle.wdt_pact.specs.Lists.{Splits}
-use Rattle.wdt_pact.specs.Pairs.{SendHold, SendHas}
+use Rattle.wdt_pact.specs.Pairs.{SendHas}
 use Rattle.wdt_pact.specs.Right.{IsRight}
-use Rattle.wdt_pact.specs.Stances.{Stance, Talks, send_stance, stand}
 use Rattle.wdt_pact.specs.World.{PlainWorld, WorldEvent, Sends, Receives, Cut, Deny, Refuse, all_happen, first_pair, first_world, happens, pair_at}
 use Rattle.wdt_pact.proofs.Agreeing.{list_after, told_true}
 use Rattle.wdt_pact.proofs.Beginning.{finishing_first, lands_in_order, receives_named, sends_named, sound_first}

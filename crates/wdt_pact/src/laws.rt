@@ -57,8 +57,8 @@ ghost use Rattle.wdt_sender_fsm.specs.declared.states.SendState.{SendState};
 
 use wdt_receiver_fsm::receivers_stay_receivers;
 use wdt_sender_fsm::{
-    a_sender_speaks_in_turn, file_lists_are_compared, histories_are_sound, senders_stay_senders, steps_answer_rightly,
-    steps_have_outcomes, steps_touch_their_lane,
+    a_sender_speaks_in_turn, file_lists_are_compared, histories_are_sound, senders_stay_senders,
+    steps_answer_rightly, steps_have_outcomes, steps_touch_their_lane,
 };
 
 /// A sender's lane comes to its blocks: its connection stands, what the sender is is written, and it is told

@@ -12,11 +12,12 @@ mod laws;
 
 pub use laws::{
     a_lane_sends_its_blocks, a_lane_takes_up_its_connection, a_lost_connection_is_made_again,
-    a_ready_finish_comes, a_receiver_keeps_the_conversation, a_sender_finds_no_fault, a_sender_keeps_the_conversation,
-    blocks_land, blocks_land_in_order, confirmed_lanes_are_known, connections_are_cut_and_taken,
-    counts_are_right, every_event_keeps_a_world_sound, lanes_tell_of_closed_lanes,
-    no_world_stands_still, nothing_goes_wrong, nothing_waits_behind_the_finish, one_end_can_move,
-    tellings_reach_the_sender, the_finish_is_right, waiting_blocks_have_a_lane,
-    what_is_read_is_understood, what_is_read_may_come, what_is_read_was_written,
-    what_is_written_is_a_move, worlds_begin_sound, worlds_stay_sound,
+    a_ready_finish_comes, a_receiver_keeps_the_conversation, a_sender_finds_no_fault,
+    a_sender_keeps_the_conversation, blocks_land, blocks_land_in_order, confirmed_lanes_are_known,
+    connections_are_cut_and_taken, counts_are_right, every_event_keeps_a_world_sound,
+    lanes_tell_of_closed_lanes, no_world_stands_still, nothing_goes_wrong,
+    nothing_waits_behind_the_finish, one_end_can_move, tellings_reach_the_sender,
+    the_finish_is_right, waiting_blocks_have_a_lane, what_is_read_is_understood,
+    what_is_read_may_come, what_is_read_was_written, what_is_written_is_a_move, worlds_begin_sound,
+    worlds_stay_sound,
 };

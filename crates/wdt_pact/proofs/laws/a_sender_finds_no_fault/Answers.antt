@@ -1,4 +1,4 @@
-use Rattle.std.proofs.Common.{length, replicate, subst, sym, ◌<◌}
+use Rattle.std.proofs.Common.{subst, sym}
 use Rattle.std.proofs.lemmas.List.{length-replicate}
 use Rattle.wdt_pact.specs.Finishing.{Finishing}
 use Rattle.wdt_pact.specs.Fitting.{AreOfLanes, IsSound}
