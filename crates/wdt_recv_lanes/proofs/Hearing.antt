@@ -1,8 +1,8 @@
 -- What a dock's steps say of a turn with what a lane heard.
-use Rattle.std.proofs.Common.{◌≡◌, inl, inr, ℕ, ◌<◌, ◌≤◌, Bool, true, false, List, [], length, Option, Some, None, Result, Ok, Err, refl, sym, ap, ◌∙◌, subst, arith}
+use Rattle.std.proofs.Common.{◌≡◌, ℕ, ◌<◌, ◌≤◌, true, List, [], length, Option, Some, None, Result, Ok, Err, refl, sym, ap, ◌∙◌, subst, arith}
 use Rattle.std.specs.Prelude.{IfErr, IfSome, OnErr, min, ◌&&◌, ◌==◌}
 use Rattle.std.specs.Str.{bytes_eq}
-use Rattle.std.proofs.lemmas.Bool.{and_from, and_parts, both_ways, cases_Bool, eq-eqb, eqb-true}
+use Rattle.std.proofs.lemmas.Bool.{and_parts, eqb-true}
 use Rattle.std.proofs.lemmas.Option.{same_Some}
 use Rattle.std.proofs.lemmas.Slice.Eq.{bytes_eq-Decides}
 use Rattle.wdt_units.specs.Counts.{Rises}
@@ -23,19 +23,15 @@ use Rattle.wdt_receiver_fsm.specs.declared.inputs.RecvIn.{RecvIn}
 use Rattle.wdt_receiver_fsm.specs.declared.inputs.RecvIn.TheVariants as inputs
 use Rattle.wdt_receiver_fsm.specs.declared.states.RecvState.{RecvState}
 use Rattle.wdt_receiver_fsm.specs.declared.states.RecvState.TheVariants as states
-use Rattle.wdt_receiver_fsm.specs.Plan.{EndsIn}
 use Rattle.wdt_receiver_fsm.specs.PlainReceiver.{PlainReceiver, lane_at, past_at, state_at}
-use Rattle.wdt_receiver_fsm.specs.Receiver.{IsReceiver}
 use Rattle.wdt_receiver_fsm.specs.Turn.{Bytes, Given, Put, next_place, turn_plan}
-use Rattle.wdt_receiver_fsm.specs.Writes.{FitsPut}
 use Rattle.wdt_receiver_fsm.proofs.ForCallers.{ends_weaker}
-use Rattle.wdt_link.specs.Saying.{IsFrameOf, IsPartAt, IsSaid, Part, PlainSaid, Whole, piece_in}
+use Rattle.wdt_link.specs.Saying.{IsFrameOf, IsSaid, Part, PlainSaid, Whole, piece_in}
 use Rattle.wdt_dock.specs.Dock.{wanted, wanted_in, wanted_of}
 use Rattle.wdt_dock.specs.DockGood.{DockGood, IsGoodFor, PutOf}
 use Rattle.wdt_dock.specs.DockView.{LosesDisk, Turns}
 use Rattle.wdt_dock.specs.Sparing.{Between, IsOther, LeavesOthers}
-use Rattle.wdt_recv_lanes.specs.Kept.{GoodFor}
-use Rattle.wdt_recv_lanes.specs.Turns.{CameTo, IsInputSaid, Leaves, Turned, bytes_put, is_wanted, is_wanted_by}
+use Rattle.wdt_recv_lanes.specs.Turns.{CameTo, IsInputSaid, Leaves, bytes_put, is_wanted, is_wanted_by}
 
 -- ---- what is handed in
 

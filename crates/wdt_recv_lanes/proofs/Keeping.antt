@@ -24,19 +24,17 @@ use Rattle.wdt_sender_fsm.specs.declared.answers.EndAnswer.{EndAnswer}
 use Rattle.wdt_sender_fsm.specs.declared.answers.EndAnswer.TheVariants as answers
 use Rattle.wdt_sender_fsm.specs.Rules.{is_failure}
 use Rattle.wdt_receiver_fsm.specs.declared.acts.RecvAct.{RecvAct}
-use Rattle.wdt_receiver_fsm.specs.declared.acts.RecvAct.TheVariants as acts
 use Rattle.wdt_receiver_fsm.specs.declared.events.RecvEvent.{RecvEvent}
 use Rattle.wdt_receiver_fsm.specs.declared.inputs.RecvIn.TheVariants as inputs
 use Rattle.wdt_receiver_fsm.specs.declared.states.RecvLane.{RecvLane}
 use Rattle.wdt_receiver_fsm.specs.declared.states.RecvState.{RecvState}
 use Rattle.wdt_receiver_fsm.specs.declared.states.RecvState.TheVariants as states
-use Rattle.wdt_receiver_fsm.specs.Acts.{IsActOf, act_in, act_of}
+use Rattle.wdt_receiver_fsm.specs.Acts.{IsActOf, act_in}
 use Rattle.wdt_receiver_fsm.specs.Plan.{EndsIn}
 use Rattle.wdt_receiver_fsm.specs.PlainReceiver.{PlainReceiver, have_now, lane_at, state_at}
 use Rattle.wdt_receiver_fsm.specs.Receiver.{IsReceiver, terms_of}
 use Rattle.wdt_receiver_fsm.specs.ReceiverHistory.{end_of, lane_of}
-use Rattle.wdt_receiver_fsm.specs.Touches.{Touches}
-use Rattle.wdt_receiver_fsm.specs.Turn.{Bytes, Given, Put, Step, rests, turn_plan}
+use Rattle.wdt_receiver_fsm.specs.Turn.{Bytes, Given, Put, Step, turn_plan}
 use Rattle.wdt_receiver_fsm.specs.Writes.{CanTell, FitsAct, FitsPut}
 use Rattle.wdt_receiver_fsm.proofs.ForCallers.{act_written, codes_keep, turn_acts, turn_follows, turn_keeps, turn_touches}
 use Rattle.wdt_dock.specs.DockGood.{DockGood, IfKnown, IsTrees}
@@ -111,8 +109,8 @@ no_slips (Some told) start r t put s0 s1 leaves good none = slips_on _ s0.told s
 apart : (T : List File) (path of : List ℕ) (size stamp : ℕ) → file_of T path ≡ None → IsOfFile T of size stamp → bytes_eq of path ≡ false
 apart T path of size stamp none file =
     elim (cases_Bool (bytes_eq of path)) [
-      inl e ↦ let found : file_of T path ≡ Some file.file = subst (λ (p : List ℕ). file_of T p ≡ Some file.file) ((bytes_eq-Decides of path).0 e) file.found in cc
-    | inr e ↦ e
+      | inl e ↦ let found : file_of T path ≡ Some file.file = subst (λ (p : List ℕ). file_of T p ≡ Some file.file) ((bytes_eq-Decides of path).0 e) file.found in cc
+      | inr e ↦ e
     ]
 
 -- where the known files are the tree's, a path that isn't the tree's is known of none

@@ -1,13 +1,12 @@
 -- What performing a receiver's act does to the bytes of a connection, and to what is owed on it.
 use Rattle.std.specs.Prelude.{◌≡◌, ℕ, Bool, false, nat_lt, List, take, Option, Some, None}
-use Rattle.wdt_codec.specs.declared.frames.Frame.{Frame}
 use Rattle.wdt_codec.specs.Frames.{spell}
 use Rattle.wdt_codec.specs.Grammar.{IsBadAt}
 use Rattle.wdt_receiver_fsm.specs.declared.acts.RecvAct.{RecvAct}
 use Rattle.wdt_receiver_fsm.specs.declared.acts.RecvAct.TheVariants as acts
 use Rattle.wdt_receiver_fsm.specs.declared.inputs.RecvIn.TheVariants as inputs
 use Rattle.wdt_link.specs.Owing.{Owing, IsNextPiece, is_piece_slip, owing_behind}
-use Rattle.wdt_link.specs.Saying.{PlainSaid, Whole, spelled}
+use Rattle.wdt_link.specs.Saying.{Whole, spelled}
 use Rattle.wdt_link.specs.Traffic.{Traffic, Takes}
 use Rattle.wdt_lanes.specs.Performing.{Puts}
 use Rattle.wdt_recv_lanes.specs.declared.heard.Heard.{Heard}

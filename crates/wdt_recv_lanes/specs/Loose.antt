@@ -1,6 +1,6 @@
 -- A legal history of a receiver has at most one entry without a lane: the finish.
 use Rattle.std.specs.Prelude.{◌≡◌, ℕ, ◌+◌, ◌≤◌, Bool, true, false, List, [], ◌∷◌, ◌++◌}
-use Rattle.std.proofs.Common.{ap, subst, arith, ◌∙◌}
+use Rattle.std.proofs.Common.{ap, subst, arith}
 use Rattle.wdt_units.specs.Lanes.{loose, one_if_none}
 use Rattle.wdt_receiver_fsm.specs.declared.events.RecvEvent.{RecvEvent}
 use Rattle.wdt_receiver_fsm.specs.declared.events.RecvEvent.TheVariants as events

@@ -44,8 +44,7 @@ struct RecvJob<N: Run, D: Depot + Drop, J: Start, A: Accept<N>, H: Hub<KeptDock<
 }
 
 impl<N: Run, D: Depot + Drop, J: Start, A: Accept<N>, H: Hub<KeptDock<N, D, J>>> Job
-    for RecvJob<N, D, J, A, H>
-{
+    for RecvJob<N, D, J, A, H> {
     type Seat = Seat<H::Pass, A>;
 
     ghost may = { λ job seat. MayRun H.has A.out job.hub seat };
@@ -65,11 +64,7 @@ fn run_lanes<
     J: Start + Sync,
     A: Accept<N> + Send + Sync,
     H: Hub<KeptDock<N, D, J>> + Sync,
->(
-    rt: &R,
-    hub: H,
-    seats: &mut Vec<Seat<H::Pass, A>>,
-) -> H
+>(rt: &R, hub: H, seats: &mut Vec<Seat<H::Pass, A>>) -> H
 where
     H::Pass: Send,
     A::L: Send,

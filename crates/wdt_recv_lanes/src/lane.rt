@@ -74,11 +74,7 @@ pub(crate) fn run_lane<
     J: Start,
     A: Accept<N>,
     H: Hub<KeptDock<N, D, J>>,
->(
-    rt: &R,
-    hub: &H,
-    seat: &mut Seat<H::Pass, A>,
-)
+>(rt: &R, hub: &H, seat: &mut Seat<H::Pass, A>)
     requires has { H.has hub.now seat.old.pass }
     requires out { A.out seat.old.acceptor ≡ 0 }
     ensures pass { SamePass H.has H.lane hub.now seat.old.pass seat.new.pass }

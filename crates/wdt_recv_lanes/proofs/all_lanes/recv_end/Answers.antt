@@ -1,4 +1,4 @@
-use Rattle.std.proofs.Common.{◌≡◌, ap, sym, ◌∙◌, arith}
+use Rattle.std.proofs.Common.{◌≡◌, sym, ◌∙◌, arith}
 use Rattle.wdt_units.specs.LaneSets.{has_lane}
 use Rattle.wdt_lanes.specs.Seats.{IsBack, RoseAtRest, SamePass}
 use Rattle.wdt_lanes.proofs.Ending.{among_in, counted, flag_in, rested, rose_in, same_numbers, seat_has, whole}

@@ -1,5 +1,4 @@
 use Rattle.std.proofs.Common.{◌<◌, length, sym, ap, subst}
-use Rattle.wdt_receiver_fsm.specs.PlainReceiver.{PlainReceiver}
 use Rattle.wdt_recv_lanes.specs.Turns.{put_of}
 use Rattle.wdt_recv_lanes.proofs.Keeping.{kept_turn, lanes_so, legal_so, others_so, owned, turned_ok}
 use Rattle.wdt_recv_lanes.proofs.kept_dock.KeptDockMachine.turn.Goals as goal
