@@ -199,6 +199,7 @@ module _ (manifest : List Entry) (block session : ℕ) (log : Meaning) (batch n 
         tells = λ l within. subst (GoesDown (ComesOfPlan false)) (sym (pair_is l (in_pairs l within))) record { hand = tt; says = tt; taken = tt; between = tt; newest = tt };
         sized = λ n. absurd (n (ap (λ (e : EndPast). e.sized) received.end_of-none));
         list = λ have e. cc;
+        finished = λ e. absurd (both_ways (sent.end_of []).has_finish (ap (λ (x : sent.EndPast). x.has_finish) sent.end_of-none) e);
         empty = λ e. absurd (both_ways (recv.has_finish w.receiver) unfinished e);
         planned = λ e. absurd (both_ways (recv.has_finish w.receiver) unfinished e);
       }

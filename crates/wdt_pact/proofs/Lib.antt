@@ -76,6 +76,7 @@ mod Coming
 mod Taken
 mod Witnessing
 mod Agreeing
+mod Served
 mod Worlds
 mod Faultless
 mod Still

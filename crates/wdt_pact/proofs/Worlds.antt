@@ -37,6 +37,7 @@ use Rattle.wdt_pact.proofs.Counting.{greeting_right, marks_right}
 use Rattle.wdt_pact.proofs.Emptying.{empty_after, planned_after}
 use Rattle.wdt_pact.proofs.Events.{recv_cases, send_cases}
 use Rattle.wdt_pact.proofs.Planning.{sized_after, tells_after}
+use Rattle.wdt_pact.proofs.Served.{SenderMakes, finish_stays, finished_after}
 use Rattle.wdt_pact.proofs.TellingAll.{SenderComes, tellings_after}
 use Rattle.wdt_pact.proofs.Witnessing.{witness_after}
 
@@ -51,7 +52,7 @@ many_stay w (Cut l down up) = length-set w.pairs l _
 many_stay w (Deny l) = length-set w.pairs l _
 many_stay w (Refuse l) = length-set w.pairs l _
 
-module _ (sounds : SoundLanes) (stay : StayClosed) (touches : SenderTouches) (comes : SenderComes)
+module _ (sounds : SoundLanes) (stay : StayClosed) (touches : SenderTouches) (comes : SenderComes) (makes : SenderMakes)
     (keeps : (w : PlainWorld) (e : WorldEvent) → IsSound w → Finishing w → lane_of e < length w.pairs → IsSound (happens w e)) where
   pub finishing_after : (w : PlainWorld) (e : WorldEvent) → IsSound w → Finishing w → lane_of e < length w.pairs → Finishing (happens w e)
   finishing_after w e s f within =
@@ -63,6 +64,7 @@ module _ (sounds : SoundLanes) (stay : StayClosed) (touches : SenderTouches) (co
         tells = tells_after touches comes w e s f within;
         sized = sized_after touches comes w e s f within;
         list = list_after touches w e s f within;
+        finished = finished_after comes makes finish_stays w e s f within;
         empty = empty_after sounds touches comes w e s f within;
         planned = planned_after sounds touches comes w e s f within;
       }
@@ -90,7 +92,8 @@ none_held (suc n) f none =
     ∙ omega (arith, none_held n f (λ k small. none k (omega (arith, small)))))
 
 -- a lane reads it only behind the finish
-pub word_finished : (w : PlainWorld) (l : ℕ) → IsSound w → l < length w.pairs → (pair_at w l).send ≡ SendHas (inputs.Got frames.Done) → (common w.receiver).finish ≡ true
+pub word_finished : (w : PlainWorld) (l : ℕ) → IsSound w → l < length w.pairs → (pair_at w l).send ≡ SendHas (inputs.Got frames.Done)
+    → (common w.receiver).finish ≡ true
 word_finished w l s within holds = told_true w l frames.Done s within holds refl
 
 pub never_early : (w : PlainWorld) (l : ℕ) → IsSound w → Finishing w → l < length w.pairs → (pair_at w l).send ≡ SendHas (inputs.Got frames.Done)
@@ -107,7 +110,8 @@ unfolding Splits
 splits_none kept landed m = m ∙ append-nil landed
 
 pub is_right : SoundLanes
-    → ((state : SendState) (ask acked : Bool) (frame : Frame) (q : Phase) → phase_heard frame (phase_by ask acked state) ≡ Some q → is_named (row_of state (inputs.Got frame)) ≡ true)
+    →
+    ((state : SendState) (ask acked : Bool) (frame : Frame) (q : Phase) → phase_heard frame (phase_by ask acked state) ≡ Some q → is_named (row_of state (inputs.Got frame)) ≡ true)
     → (w : PlainWorld) (l : ℕ) → IsSound w → Finishing w → l < length w.pairs → IsRight w l
 is_right sounds hears w l s f within =
     record {
@@ -122,7 +126,7 @@ is_right sounds hears w l s f within =
 
 -- ---- worlds that began
 
-module _ (sounds : SoundLanes) (stay : StayClosed) (touches : SenderTouches) (comes : SenderComes)
+module _ (sounds : SoundLanes) (stay : StayClosed) (touches : SenderTouches) (comes : SenderComes) (makes : SenderMakes)
     (keeps : (w : PlainWorld) (e : WorldEvent) → IsSound w → Finishing w → lane_of e < length w.pairs → IsSound (happens w e))
     (sent : (manifest : List Entry) (block session n : ℕ) → 1 ≤ n → IsSender (opened manifest block session (replicate n new_lane)))
     (received : (log : Meaning) (batch n : ℕ) → n ≤ 16 → IsReceiver (recv.opened log batch (replicate n recv.new_lane))) where
@@ -132,7 +136,7 @@ module _ (sounds : SoundLanes) (stay : StayClosed) (touches : SenderTouches) (co
       → FitsChunks (have_now log.files []) → AreOfLanes n es → IsSound (all_happen (first_world manifest block session log batch n conn) es) × Finishing
       (all_happen (first_world manifest block session log batch n conn) es)
   all_begun manifest block session log batch n conn es some few lawful stamps have of =
-      all_after sounds stay touches comes keeps es (first_world manifest block session log batch n conn)
+      all_after sounds stay touches comes makes keeps es (first_world manifest block session log batch n conn)
       (sound_first manifest block session log batch n conn (sent manifest block session n some) (received log batch n few) lawful stamps have)
       (finishing_first manifest block session log batch n conn some) (subst (λ (m : ℕ). AreOfLanes m es) (sym (length-replicate n (first_pair conn))) of)
 

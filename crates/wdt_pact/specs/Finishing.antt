@@ -9,6 +9,7 @@ use Rattle.wdt_sender_fsm.specs.declared.acts.SendAct.TheVariants as acts
 use Rattle.wdt_sender_fsm.specs.Phases.{Message, Framed}
 use Rattle.wdt_sender_fsm.specs.PlainSender.{is_closed, waiting_blocks}
 use Rattle.wdt_sender_fsm.specs.Rules.{is_failure}
+use Rattle.wdt_sender_fsm.specs.SenderHistory.{end_of as sender_end}
 use Rattle.wdt_receiver_fsm.specs.PlainReceiver as recv
 use Rattle.wdt_receiver_fsm.specs.PlainReceiver.{have_now}
 use Rattle.wdt_receiver_fsm.specs.Ready.{is_confirmed}
@@ -111,6 +112,8 @@ pub record Finishing (w : PlainWorld) : Type 0 where
   pub sized : ((end_of w.receiver.history).sized ≡ None → ⊥) → is_some w.sender.have ≡ true
   -- what the sender read of the destination is what that had
   pub list : (have : List HaveFile) → w.sender.have ≡ Some have → have ≡ have_now w.receiver.opening w.receiver.history
+  -- the sender has read the last word only where the finish has come
+  pub finished : (sender_end w.sender.history).has_finish ≡ true → recv.has_finish w.receiver ≡ true
   -- behind the finish no block waits, and the sender has a plan
   pub empty : recv.has_finish w.receiver ≡ true → waiting_blocks w.sender ≡ []
   pub planned : recv.has_finish w.receiver ≡ true → is_some w.sender.have ≡ true

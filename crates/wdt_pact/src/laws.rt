@@ -352,6 +352,17 @@ pub fn a_sender_finds_no_fault()
     file_lists_are_compared();
 }
 
+/// Where the sender's answer is that it is done, the receiver's finish has come, and so each lane has landed all that it claimed,
+/// in the same order, and no block waits.
+pub fn a_done_sender_has_all_landed()
+    ensures finish { (w : PlainWorld) → IsSound w → Finishing w → w.sender.answer ≡ answers.Done → recv.has_finish w.receiver ≡ true }
+    ensures landed { (w : PlainWorld) (l : ℕ) → IsSound w → Finishing w → l < length w.pairs → w.sender.answer ≡ answers.Done
+        → ((sending w.sender l).kept ≡ (receiving w.receiver l).landed) × (waiting_blocks w.sender ≡ []) }
+{
+    histories_are_sound();
+    a_sender_speaks_in_turn();
+}
+
 /// Where a lane reads that nothing more is to come, and the receiver is ready for the finish with it, no block
 /// waits at the sender, and each lane has landed all that it claimed, and holds no block.
 pub fn the_finish_is_right()

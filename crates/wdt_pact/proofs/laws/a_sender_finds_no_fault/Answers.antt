@@ -16,7 +16,7 @@ pub returns-clause-begun : goal.returns-clause-begun
 returns-clause-begun c = λ manifest block session log batch n conn es kind some few lawful stamps have ordered of e.
     none_first kind
     (all_faultless (λ (w : PlainWorld). IsSound w × Finishing w) (λ w good. good)
-    (λ w d good within. (stays_sound c.senders_stay_senders.ensures.steps c.steps_have_outcomes.ensures.comes c.steps_touch_their_lane.ensures.touches c.steps_touch_their_lane.ensures.lawful c.steps_answer_rightly.ensures.fits c.histories_are_sound.ensures.sound w d good.0 good.1 within, finishing_after c.histories_are_sound.ensures.sound c.histories_are_sound.ensures.closed c.steps_touch_their_lane.ensures.touches c.steps_have_outcomes.ensures.comes (stays_sound c.senders_stay_senders.ensures.steps c.steps_have_outcomes.ensures.comes c.steps_touch_their_lane.ensures.touches c.steps_touch_their_lane.ensures.lawful c.steps_answer_rightly.ensures.fits c.histories_are_sound.ensures.sound) w d good.0 good.1 within))
+    (λ w d good within. (stays_sound c.senders_stay_senders.ensures.steps c.steps_have_outcomes.ensures.comes c.steps_touch_their_lane.ensures.touches c.steps_touch_their_lane.ensures.lawful c.steps_answer_rightly.ensures.fits c.histories_are_sound.ensures.sound w d good.0 good.1 within, finishing_after c.histories_are_sound.ensures.sound c.histories_are_sound.ensures.closed c.steps_touch_their_lane.ensures.touches c.steps_have_outcomes.ensures.comes c.steps_have_outcomes.ensures.makes (stays_sound c.senders_stay_senders.ensures.steps c.steps_have_outcomes.ensures.comes c.steps_touch_their_lane.ensures.touches c.steps_touch_their_lane.ensures.lawful c.steps_answer_rightly.ensures.fits c.histories_are_sound.ensures.sound) w d good.0 good.1 within))
     (faultless_after c.histories_are_sound.ensures.sound c.steps_have_outcomes.ensures.comes c.a_sender_speaks_in_turn.ensures.hears (λ first later same. (c.file_lists_are_compared.ensures.same first later).1 same))
     es (first_world manifest block session log batch n conn) kind
     (sound_first manifest block session log batch n conn (c.senders_stay_senders.ensures.opens manifest block session n some) (c.receivers_stay_receivers.ensures.begins log batch n few) lawful stamps have, finishing_first manifest block session log batch n conn some)
