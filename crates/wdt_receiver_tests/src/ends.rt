@@ -13,7 +13,7 @@ use wdt_depot::MemDepot;
 use wdt_dock::Dock;
 use wdt_ranges::Have;
 use wdt_receiver_fsm::{RecvAct, RecvEvent, RecvIn};
-use wdt_units::{Conn, Header, Lane, MAX_FILE_SIZE, MAX_FILES, MAX_TOTAL, Name, NoMemory};
+use wdt_units::{Conn, Header, Lane, MAX_FILE_SIZE, MAX_FILES, MAX_TOTAL, Name};
 
 /// How many lanes an end of a test has.
 pub const LANES: u8 = 3;
@@ -175,6 +175,21 @@ pub fn step(
     }
     let conn = conn_of(dock.history(), lane);
     let put = input(rt, alloc, lane, conn, letter)?;
+    hand_in(rt, dock, lane, put)
+}
+
+/// A step of a lane with an input. There is memory for it.
+pub fn hand_in(
+    rt: &impl Abort,
+    dock: &mut Dock<MemDepot>,
+    lane: Lane,
+    put: RecvIn,
+) -> Result<RecvAct, Fail>
+    requires lanes { length dock.old.plain.lanes ≡ LANES }
+    requires lane { lane.0 < LANES }
+    requires fits { FitsPut (Given put) }
+    ensures { length dock.new.plain.lanes ≡ LANES }
+{
     match dock.step(lane, put) {
         Ok(act) => Ok(act),
         Err(_) => panic!(rt; "no memory"),
