@@ -45,7 +45,8 @@ fn take<N: Run, D: Depot + Drop>(
     said: &Said<N>,
 ) -> Result<RecvAct, NoMemory>
     requires { lane.0 < length (dock.old).plain.lanes }
-    ensures { Turned N.told (dock.old).plain lane (bytes_put (is_wanted (wanted (dock.old).plain lane.0) said.now) said.now) result (dock.new).plain (D.state (dock.old).depot) (D.state (dock.new).depot) }
+    ensures { Turned N.told (dock.old).plain lane (bytes_put (is_wanted (wanted (dock.old).plain lane.0) said.now) said.now)
+        result (dock.new).plain (D.state (dock.old).depot) (D.state (dock.new).depot) }
 {
     if is_wanted::<N, D>(dock, lane, said) {
         if let Some(bytes) = said.as_piece() {
