@@ -1,11 +1,11 @@
 //! What went wrong, in a line for a person.
 use crate::misreading::explain_words;
-use crate::status::Status;
 use std::alloc::Global;
 use std::io;
 use std::rt::Files;
 use wdt_folder::{Fault, FolderSource, OneLine};
 use wdt_sender_fsm::RefusedKind;
+use wdt_tool::Status;
 use wdt_units::{MAX_BLOCKS, MAX_FILES};
 
 /// Writes one line on standard error for what went wrong, and for a wrong word the usage of its command.
@@ -23,6 +23,9 @@ pub fn explain<R: Files + AllocGlobal + Clone + Drop>(
         Status::Usage => explain_words(rt, words),
         Status::SourceFault => explain_fault(rt, source.fault()),
         Status::DiskFault => explain_fault(rt, disk),
+        Status::LinkFault => eprintln!(rt; "wdt: a lane has no connection left"),
+        Status::Peer(kind) => eprintln!(rt; "wdt: the other end may not say this: {kind}"),
+        Status::Aborted(code) => eprintln!(rt; "wdt: the other end failed, with code {code}"),
         Status::Refused(kind) => explain_refusal(rt, alloc, kind, source),
         Status::OutFault => explain_out(rt, out),
         Status::NoMemory => eprintln!(rt; "wdt: out of memory"),

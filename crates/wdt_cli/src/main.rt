@@ -6,33 +6,17 @@
 #![tactic(auto)]
 
 mod explaining;
-mod fail;
-#[cfg(test)]
-mod fixtures;
 mod help;
-mod listing;
-mod log;
-mod log_lines;
 mod misreading;
-mod plan;
-mod plan_lines;
-mod rehearsal;
-mod report;
-mod status;
-mod stored;
-#[cfg(test)]
-mod tests;
-mod tool;
 
 use explaining::{explain, explain_out};
-use status::Status;
 use std::alloc::{AllocError, Global};
 use std::io::{self, ErrorKind};
 use std::process::ExitCode;
 use std::rt::Env;
-use tool::tool;
 use wdt_depot::MemDepot;
 use wdt_folder::{FolderDepot, FolderSource};
+use wdt_tool::{Status, tool};
 use wdt_units::{Sink, ToWrite};
 use wdt_words::{Named, folders_of};
 

@@ -1,5 +1,0 @@
-use Rattle.std.proofs.Common.{append_assoc}
-use Rattle.wdt_cli.proofs.report.report_lines.Goals as goal
-
-pub returns : goal.returns
-returns c = rw c.in_ok-text.ensures.ok (simp append_assoc)
