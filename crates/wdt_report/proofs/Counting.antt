@@ -88,7 +88,7 @@ noted_shows claims lanes (Greet k n) within shows =
 noted_shows claims lanes (Global j k n) within shows = closing claims lanes k.0 n (place lanes k.0).is_closed within refl shows
 noted_shows claims lanes (Sent k) within shows =
     quiet_shows claims (all_after claims (Sent k)) lanes (λ l. kept_if (k.0 == l) (sent (claims l)) (claims l) refl) (λ l. closed_if (k.0 == l) (sent
-        (claims l)) (claims l) refl) shows
+    (claims l)) (claims l) refl) shows
 noted_shows claims lanes (Finish k) within shows = quiet_shows claims (all_after claims (Finish k)) lanes (λ l. refl) (λ l. refl) shows
 noted_shows claims lanes (Linked k c) within shows = shows
 noted_shows claims lanes (NoLink k) within shows = shows
@@ -205,7 +205,7 @@ counted_more h k e lanes connections requeued next within c =
 pub counted_next : (h : List SendEvent) (k : ℕ) (d : SendEvent) (lanes more : List Listed) (connections requeued made off : ℕ) → k < length h
     → more ≡ noted lanes (get_or h k d) → made ≡ one_linked (get_or h k d)
     → off ≡ taken lanes (get_or h k d) → HasPlace lanes (get_or h k d) → Counted h k lanes connections requeued
-        → Counted h (k + 1) more (connections + made) (requeued + off)
+    → Counted h (k + 1) more (connections + made) (requeued + off)
 counted_next h k d lanes more connections requeued made off lt more_is made_is off_is within c =
     let next : drop k h ≡ get_or h k d ∷ drop (k + 1) h = drop-cons h k d lt ∙ ap (λ j. get_or h k d ∷ drop j h) (one_more k) in
     subst (λ (n : ℕ). Counted h (k + 1) more (connections + made) (requeued + n)) (sym off_is)

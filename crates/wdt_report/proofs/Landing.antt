@@ -121,14 +121,14 @@ counted_more g k e lanes blocks bytes closed next within small c =
 pub counted_next : (g : List RecvEvent) (k : ℕ) (d : RecvEvent) (lanes more : List ℕ) (blocks bytes closed one two off : ℕ) → k < length g
     → more ≡ begun_noted lanes (get_or g k d) → one ≡ one_landing (get_or g k d)
     → two ≡ one_closing (get_or g k d) → off ≡ landing lanes (get_or g k d) → HasBegunPlace lanes (get_or g k d) → off < 4294967296
-        → Counted g k lanes blocks bytes closed → Counted g (k + 1) more (blocks + one) (bytes + off) (closed + two)
+    → Counted g k lanes blocks bytes closed → Counted g (k + 1) more (blocks + one) (bytes + off) (closed + two)
 counted_next g k d lanes more blocks bytes closed one two off lt more_is one_is two_is off_is within small c =
     let next : drop k g ≡ get_or g k d ∷ drop (k + 1) g = drop-cons g k d lt ∙ ap (λ j. get_or g k d ∷ drop j g) (one_more k) in
     subst (λ (n : ℕ). Counted g (k + 1) more (blocks + n) (bytes + off) (closed + two)) (sym one_is)
     (subst (λ (n : ℕ). Counted g (k + 1) more (blocks + one_landing (get_or g k d)) (bytes + off) (closed + n)) (sym two_is)
     (subst (λ (n : ℕ). Counted g (k + 1) more (blocks + one_landing (get_or g k d)) (bytes + n) (closed + one_closing (get_or g k d))) (sym off_is)
     (subst (λ (ls : List ℕ). Counted g (k + 1) ls (blocks + one_landing (get_or g k d)) (bytes + landing lanes (get_or g k d)) (closed + one_closing
-        (get_or g k d))) (sym more_is)
+    (get_or g k d))) (sym more_is)
     (counted_more g k (get_or g k d) lanes blocks bytes closed next within (subst (λ (n : ℕ). n < 4294967296) off_is small) c))))
   where
     one_more : (n : ℕ) → suc n ≡ n + 1
