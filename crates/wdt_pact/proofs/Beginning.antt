@@ -99,7 +99,7 @@ sends_named hears w l frame s within holds calm =
 
 -- ---- a world that begins
 
-get_same : {A : Type 0} (n k : ℕ) (x : A) → k < n → slice_get (replicate n x) k ≡ Some x
+pub get_same : {A : Type 0} (n k : ℕ) (x : A) → k < n → slice_get (replicate n x) k ≡ Some x
 get_same zero k x within = absurd (omega (arith, within))
 get_same (suc n) zero x within = refl
 get_same (suc n) (suc k) x within = get_same n k x (omega (arith, within))
@@ -111,7 +111,7 @@ module _ (manifest : List Entry) (block session : ℕ) (log : Meaning) (batch n 
   many : {A : Type 0} (x : A) → length (replicate n x) ≡ n
   many x = length-replicate n x
 
-  pair_is : (l : ℕ) → l < n → pair_at w l ≡ first_pair conn
+  pub pair_is : (l : ℕ) → l < n → pair_at w l ≡ first_pair conn
   pair_is l within = ap pair_or (get_same n l (first_pair conn) within)
 
   sending_is : (l : ℕ) → l < n → sending w.sender l ≡ record { lane = sender.new_lane; past = sent.no_past; kept = [] }
@@ -133,7 +133,7 @@ module _ (manifest : List Entry) (block session : ℕ) (log : Meaning) (batch n 
   none_named : (l : ℕ) → IsNamed w.receiver.known (recv.past_at w.receiver l)
   none_named l = subst (IsNamed w.receiver.known) (sym (past_is l)) record { landed = tt; begun = λ b e. cc }
 
-  in_pairs : (l : ℕ) → l < length w.pairs → l < n
+  pub in_pairs : (l : ℕ) → l < length w.pairs → l < n
   in_pairs l within = subst (λ (k : ℕ). l < k) (many (first_pair conn)) within
 
   pub sound_first : IsSender w.sender → IsReceiver w.receiver → IsLawful w.sender → ((file : ℕ) (entry : Entry) → slice_get manifest file ≡ Some entry → entry.stamp ≤ 2 ^ 64 - 1) → FitsChunks (have_now log.files []) → IsSound w

@@ -56,7 +56,7 @@ none_filter f (x ∷ xs) k e h = go (f x) refl e (none_filter f xs k) (or_cases 
   go false is y more (inl z) = ap f (sym (eqb-true x k z)) ∙ is
   go false is y more (inr z) = more y z
 
-in_numbers : (n k : ℕ) → k < n → has (numbers n) k ≡ true
+pub in_numbers : (n k : ℕ) → k < n → has (numbers n) k ≡ true
 in_numbers zero k small = absurd (omega (arith, small))
 in_numbers (suc n) k small = list_any-append (λ (j : ℕ). j == k) (numbers n) (n ∷ []) ∙ go (in_numbers n k) (cases_lt k n) where
   go : (k < n → has (numbers n) k ≡ true) → (k < n) ⊎ (n ≤ k) → (has (numbers n) k || ((n == k) || false)) ≡ true

@@ -12,3 +12,5 @@ pub mod Fitting
 pub mod Progress
 pub mod Right
 pub mod Measure
+pub mod Meeting
+pub mod Clashes

@@ -13,6 +13,7 @@ use Rattle.wdt_sender_fsm.specs.Phases.{Message, pieces_in}
 use Rattle.wdt_sender_fsm.specs.PlainSender.{past_at, state_at, waiting_blocks}
 use Rattle.wdt_sender_fsm.specs.SenderHistory.{LanePast}
 use Rattle.wdt_receiver_fsm.specs.declared.inputs.RecvIn.TheVariants as recv_inputs
+use Rattle.wdt_receiver_fsm.specs.declared.states.RecvLane.{RecvLane}
 use Rattle.wdt_receiver_fsm.specs.declared.states.RecvState.{RecvState}
 use Rattle.wdt_receiver_fsm.specs.declared.states.RecvState.TheVariants as recv_states
 use Rattle.wdt_receiver_fsm.specs.PlainReceiver as recv
@@ -120,6 +121,15 @@ recv_rank state (RecvHas recv_inputs.Wrote) = recv_act_rank state - 4
 recv_rank state (RecvHas (recv_inputs.Got frame)) = recv_act_rank state + 2
 recv_rank state (RecvHas input) = 8
 
+-- a lane that waits for the others without having told the sender so may still tell it
+abbrev pub wait_by : RecvState → Bool → ℕ
+wait_by recv_states.WaitForFinish false = 8
+wait_by state told = 0
+
+-- by how the lane stands
+abbrev pub wait_rank : RecvLane → ℕ
+wait_rank lane = wait_by lane.state lane.has_waited
+
 -- ---- sums over the lanes
 
 -- f over the numbers below n
@@ -133,7 +143,7 @@ lane_low s r p = send_rank s p.send + (recv_rank r p.recv + (flight_by p.taken +
 
 -- lane l
 abbrev pub low_at : PlainWorld → ℕ → ℕ
-low_at w l = lane_low (state_at w.sender l) (recv.state_at w.receiver l) (pair_at w l)
+low_at w l = lane_low (state_at w.sender l) (recv.state_at w.receiver l) (pair_at w l) + wait_rank (recv.lane_at w.receiver l)
 
 -- the lanes below n
 abbrev pub lows : ℕ → PlainWorld → ℕ

@@ -6,7 +6,7 @@ ghost use Rattle.wdt_units.specs.declared.blocks.Block.{Block};
 ghost use Rattle.wdt_units.specs.declared.blocks.Header.{Header};
 ghost use Rattle.wdt_units.specs.declared.numbers.Conn.{Conn};
 ghost use Rattle.wdt_codec.specs.Chunks.{FitsChunks};
-ghost use Rattle.wdt_logfmt.specs.View.{Meaning};
+ghost use Rattle.wdt_logfmt.specs.View.{Meaning, is_view};
 ghost use Rattle.wdt_tree.specs.declared.entry.Entry.{Entry};
 ghost use Rattle.wdt_codec.specs.Frames.{Fits};
 ghost use Rattle.wdt_codec.specs.declared.frames.Frame.{Frame};
@@ -39,26 +39,31 @@ ghost use Rattle.wdt_receiver_fsm.specs.Rows as recv_rows;
 ghost use Rattle.wdt_receiver_fsm.specs.Rows.{is_reading as receives_in};
 ghost use Rattle.wdt_receiver_fsm.specs.Ready.{is_confirmed, is_ready};
 ghost use Rattle.wdt_receiver_fsm.specs.ReceiverHistory.{end_of};
-ghost use Rattle.wdt_receiver_fsm.specs.Sets.{has};
+ghost use Rattle.std.specs.List.{flat_map, list_any};
+ghost use Rattle.wdt_receiver_fsm.specs.Sets.{has, numbers};
 ghost use Rattle.wdt_receiver_fsm.specs.Writes.{CanTell};
 ghost use Rattle.wdt_pact.specs.Belongs.{RecvBelongsAt, RecvFits, SendBelongsAt};
 ghost use Rattle.wdt_pact.specs.Bytes.{FitsFront, FrontDown, FrontUp, bytes_down, bytes_up};
+ghost use Rattle.wdt_pact.specs.Clashes.{IsMissing, clash, heads_of};
 ghost use Rattle.wdt_pact.specs.Conversation.{Conversation, common, receives, receiving, sending, sends};
 ghost use Rattle.wdt_pact.specs.Each.{Each};
 ghost use Rattle.wdt_pact.specs.Finishing.{ComesOfPlan, Finishing, IsBusy, IsTelling, receives_at, telling};
 ghost use Rattle.wdt_pact.specs.Fitting.{AreOfLanes, GoesDown, IsSound, lane_of};
 ghost use Rattle.wdt_pact.specs.Links.{front, size_down, size_up};
 ghost use Rattle.wdt_pact.specs.Lists.{Splits};
+ghost use Rattle.wdt_pact.specs.Measure.{measure};
+ghost use Rattle.wdt_pact.specs.Meeting.{Meeting, totals_of};
 ghost use Rattle.wdt_pact.specs.Pairs.{RecvDoes, RecvHas, RecvTook, SendDoes, SendHas};
 ghost use Rattle.wdt_pact.specs.Progress.{GoesOn, HasStopped, Holds, Moves};
 ghost use Rattle.wdt_pact.specs.Right.{IsRight};
-ghost use Rattle.wdt_pact.specs.World.{Cut, PlainWorld, WorldEvent, all_happen, first_world, happens, number, pair_at, recv_steps, send_steps};
+ghost use Rattle.wdt_pact.specs.World.{Cut, PlainWorld, Receives, Sends, WorldEvent, all_happen, first_world, happens, number, pair_at, recv_steps, round_of, rounds, send_steps};
 ghost use Rattle.wdt_sender_fsm.specs.declared.states.SendState.{SendState};
 
 use wdt_receiver_fsm::receivers_stay_receivers;
 use wdt_sender_fsm::{
-    a_sender_speaks_in_turn, file_lists_are_compared, histories_are_sound, senders_stay_senders,
-    steps_answer_rightly, steps_have_outcomes, steps_touch_their_lane,
+    a_sender_speaks_in_turn, blocks_are_apart, blocks_keep_their_places, file_lists_are_compared,
+    histories_are_sound, senders_stay_senders, steps_answer_rightly, steps_have_outcomes,
+    steps_touch_their_lane, the_plan_is_the_rest,
 };
 
 /// A sender's lane comes to its blocks: its connection stands, what the sender is is written, and it is told
@@ -352,6 +357,60 @@ pub fn a_sender_finds_no_fault()
     file_lists_are_compared();
 }
 
+/// What a sender says of itself, of all that is sent and of its files is so, whatever happens to a sound world, and what its
+/// receiver knows is what it said: the settings and totals that were read first, and each file's size and stamp; and the
+/// numbers of connections that it tells rise. So it is in a world that begins.
+pub fn the_ends_have_met()
+    ensures event { (w : PlainWorld) (e : WorldEvent) → IsSound w → Meeting w → lane_of e < length w.pairs → Meeting (happens w e) }
+    ensures begins { (manifest : List Entry) (block session : ℕ) (log : Meaning) (batch n : ℕ) (conn : Conn) → Meeting (first_world manifest block session log batch n conn) }
+{
+    steps_answer_rightly();
+    steps_have_outcomes();
+    steps_touch_their_lane();
+}
+
+/// Where the log is one that can be read, a receiver finds no fault with its sender: whatever happens to a sound world whose
+/// finish is as it must be, the receiver's end doesn't come to say what the sender did wrong, neither with what it tells of
+/// itself, of all that is sent and of its files, nor with a block's place, a count's limit or the sum at the finish; and in a
+/// world that began it never does.
+pub fn a_receiver_finds_no_fault()
+    ensures event { (w : PlainWorld) (e : WorldEvent) (kind : PeerKind) → IsSound w → Finishing w → Meeting w → is_view w.receiver.opening ≡ true → lane_of e < length w.pairs
+        → (happens w e).receiver.answer ≡ answers.Peer kind → w.receiver.answer ≡ answers.Peer kind }
+    ensures begun { (manifest : List Entry) (block session : ℕ) (log : Meaning) (batch n : ℕ) (conn : Conn) (es : List WorldEvent) (kind : PeerKind) → 1 ≤ n → n ≤ 16
+        → IsLawful (opened manifest block session (replicate n new_lane)) → ((file : ℕ) (entry : Entry) → slice_get manifest file ≡ Some entry → entry.stamp ≤ 2 ^ 64 - 1)
+        → FitsChunks (have_now log.files []) → is_view log.files ≡ true → AreOfLanes n es
+        → (all_happen (first_world manifest block session log batch n conn) es).receiver.answer ≡ answers.Peer kind → ⊥ }
+{
+    histories_are_sound();
+    senders_stay_senders();
+    receivers_stay_receivers();
+    steps_answer_rightly();
+    steps_have_outcomes();
+    steps_touch_their_lane();
+    blocks_are_apart();
+    blocks_keep_their_places();
+    the_plan_is_the_rest();
+    file_lists_are_compared();
+}
+
+/// A block that a lane of the receiver has read in a sound world is new: on no lane a block that landed or is begun clashes with it, and
+/// the destination had nothing of it. So none of its positions is written twice.
+pub fn the_next_block_is_new()
+    ensures apart { (w : PlainWorld) (l : ℕ) (h : Header) → IsSound w → l < length w.pairs → recv.state_at w.receiver l ≡ recv_states.ReadNextCmd
+        → (pair_at w l).recv ≡ RecvHas (Got (frames.Block h)) → list_any (clash h) (flat_map (λ (k : ℕ). heads_of (receiving w.receiver k)) (numbers (length w.pairs))) ≡ false }
+    ensures missing { (w : PlainWorld) (l : ℕ) (h : Header) → IsSound w → Finishing w → l < length w.pairs → recv.state_at w.receiver l ≡ recv_states.ReadNextCmd
+        → (pair_at w l).recv ≡ RecvHas (Got (frames.Block h)) → IsMissing (common w.receiver).have h }
+{
+    blocks_are_apart();
+    the_plan_is_the_rest();
+}
+
+/// Where the finish has come, the totals that the receiver read are those of the sender's tree. A receiver finishes only where as
+/// many files are named and as many bytes are there as it read, so these are as many as the tree's.
+pub fn the_finish_is_of_the_tree()
+    ensures { (w : PlainWorld) → IsSound w → Meeting w → recv.has_finish w.receiver ≡ true → (end_of w.receiver.history).sized ≡ Some (totals_of w.sender.manifest) }
+{}
+
 /// Where the sender's answer is that it is done, the receiver's finish has come, and so each lane has landed all that it claimed,
 /// in the same order, and no block waits.
 pub fn a_done_sender_has_all_landed()
@@ -390,6 +449,42 @@ pub fn one_end_can_move()
 pub fn no_world_stands_still()
     ensures { (w : PlainWorld) → IsSound w → ((l : ℕ) × (l < length w.pairs) × GoesOn w l) ⊎ ((l : ℕ) → l < length w.pairs → HasStopped w l) }
 {}
+
+/// Each step of either end leaves a sound world, whose finish is as it must be, as it is, or makes its measure fall, a number that
+/// is reckoned from what is held, what is on its way and what may still be done. A cut doesn't raise it.
+pub fn every_step_leaves_less_to_do()
+    ensures sends { (w : PlainWorld) (l : ℕ) (lost : Option ℕ) → IsSound w → Finishing w → l < length w.pairs
+        → (happens w (Sends l lost) ≡ w) ⊎ (measure (happens w (Sends l lost)) < measure w) }
+    ensures receives { (w : PlainWorld) (l : ℕ) (broken : Option ℕ) → IsSound w → l < length w.pairs
+        → (happens w (Receives l broken) ≡ w) ⊎ (measure (happens w (Receives l broken)) < measure w) }
+    ensures cut { (w : PlainWorld) (l down up : ℕ) → l < length w.pairs → measure (happens w (Cut l down up)) ≤ measure w }
+{
+    histories_are_sound();
+    senders_stay_senders();
+    steps_answer_rightly();
+    steps_have_outcomes();
+    steps_touch_their_lane();
+    blocks_keep_their_places();
+}
+
+/// A sound world whose finish is as it must be settles: behind as many rounds as its measure says, in each of which each lane of both
+/// ends takes a step, a further round changes nothing. Where a round changes nothing, both ends of each lane have stopped. So they
+/// have in each world that began, whatever happened to it, once it has settled.
+pub fn a_world_settles()
+    ensures settled { (w : PlainWorld) → IsSound w → Finishing w → round_of (rounds (measure w) w) ≡ rounds (measure w) w }
+    ensures ended { (w : PlainWorld) (l : ℕ) → IsSound w → Finishing w → round_of w ≡ w → l < length w.pairs → HasStopped w l }
+    ensures begun { (manifest : List Entry) (block session : ℕ) (log : Meaning) (batch n : ℕ) (conn : Conn) (es : List WorldEvent) (l : ℕ) → 1 ≤ n → n ≤ 16
+        → IsLawful (opened manifest block session (replicate n new_lane)) → ((file : ℕ) (entry : Entry) → slice_get manifest file ≡ Some entry → entry.stamp ≤ 2 ^ 64 - 1)
+        → FitsChunks (have_now log.files []) → AreOfLanes n es → l < n → let v = all_happen (first_world manifest block session log batch n conn) es in HasStopped (rounds (measure v) v) l }
+{
+    histories_are_sound();
+    senders_stay_senders();
+    receivers_stay_receivers();
+    steps_answer_rightly();
+    steps_have_outcomes();
+    steps_touch_their_lane();
+    blocks_keep_their_places();
+}
 
 /// What is read of bytes that were cut anywhere is the message at the front, exactly where it can be taken
 /// whole: of the receiver's frames, and of the sender's frames and pieces, whatever the blocks hold.
