@@ -17,13 +17,16 @@ use wdt_units::{Failed, Name, Spot};
 ///
 /// The folders of a file are made with the file, and the root too. A link, a folder or a pipe at a
 /// file's path is a fault, and so is a link on the way to it. But `make` unlinks a file or a link that
-/// stands at its path, so what the link leads to and the file's other names stay as they are. A file
-/// that was made is found again after a crash once `.wlog` or `.wlog.new` was synced after it, or any
-/// file put in place.
+/// stands at its path, so what the link leads to and the file's other names stay as they are.
 ///
-/// Once a sync has failed, each later changing call fails until `reopen`. The first sync of a log that
-/// was there before puts a copy of it in its place, which is made at `.wlog.new`: what is read of it
-/// might not be on the disk.
+/// A sync of a file is noted alone. All noted files are synced, and with them the entries of folders,
+/// before `.wlog` or `.wlog.new` is made, written or synced next, or any file put in place; one that
+/// fails there fails that call, which does nothing else then. So a log never speaks of bytes, or of a
+/// file that was made, that a crash may take. Nothing else is to count on a sync before.
+///
+/// Once a sync has failed, each later changing call fails until `reopen`, which drops what was noted.
+/// The first sync of a log that was there before puts a copy of it in its place, which is made at
+/// `.wlog.new`: what is read of it might not be on the disk.
 ///
 /// The files that were used last stay open, so nobody else may change the folder meanwhile.
 #[derive(Drop)]
@@ -240,7 +243,8 @@ where
         if self.is_barred() {
             return self.bar();
         }
-        let done = self.folder.write_at(spot, offset, bytes);
+        let path = path_in(&self.spots, spot);
+        let done = self.folder.write_at(spot, path, offset, bytes);
         self.settle(done)
     }
 

@@ -3,7 +3,7 @@ ghost use Rattle.std.specs.Prelude.{◌≤◌, ◌<◌, ◌+◌, ◌^◌, length
 
 use crate::files::{make, open, open_again, read_on, rename, renew, write_on};
 use crate::folders::Folders;
-use crate::handles::Handles;
+use crate::handles::{Due, Handles};
 use crate::paths::{joined, trimmed};
 use crate::trouble::{Fault, Trouble};
 use std::alloc::AllocError;
@@ -123,11 +123,13 @@ where
         }
     }
 
-    // Makes room for one more open file. What was written to the one that is closed for it is synced.
+    // Makes room for one more open file. The one that is closed for it is synced before, where it has to
+    // be, and so are all others of which a sync is due.
     fn make_room(&mut self) -> Result<(), Trouble> {
         if let Some(at) = self.handles.surplus() {
-            let synced = self.sync_written(at);
-            self.judge(synced)?;
+            if self.handles.is_due(at) {
+                self.settle_files(Due::Written)?;
+            }
             self.handles.close(at);
         }
         self.handles.reserve()?;
@@ -142,9 +144,11 @@ where
         self.handles.leave(spot);
     }
 
-    // A new empty file stands at the path, and stays open. All memory is taken before it is made.
+    // A new empty file stands at the path, and stays open. All memory is taken before it is made. A sync
+    // of the file that stood there isn't due any more.
     pub fn make(&mut self, path: &Name) -> Result<(), Trouble> {
         self.sound()?;
+        self.settle_before(path)?;
         let full = self.full(path.text())?;
         self.make_room()?;
         self.reach(full.as_str(), true)?;
@@ -184,10 +188,17 @@ where
     }
 
     // Writes the bytes. A file that was open for reading alone is opened again first.
-    pub fn write_at(&mut self, spot: Spot, offset: u64, bytes: &[u8]) -> Result<(), Trouble>
+    pub fn write_at(
+        &mut self,
+        spot: Spot,
+        path: &Name,
+        offset: u64,
+        bytes: &[u8],
+    ) -> Result<(), Trouble>
         ensures { 2 ^ 41 < offset + length bytes.now → IsErr result }
     {
         self.sound()?;
+        self.settle_before(path)?;
         let alloc = self.rt.alloc();
         let handle = self.handles.of(spot)?;
         let full = handle.full.as_str();
@@ -202,21 +213,26 @@ where
             }
             handle.writes = true;
         }
-        handle.is_dirty = true;
+        if handle.due == Due::Nothing {
+            handle.due = Due::Written;
+        }
         match write_on(&handle.file, offset, bytes) {
             Ok(()) => Ok(()),
             Err(reason) => Err(Trouble::at(alloc, "writing", handle.full.as_str(), reason)),
         }
     }
 
-    // Makes a file's bytes stable, and before a log's all entries of folders that aren't. It takes no
-    // memory but for a fault's text.
+    // Notes that a sync of a file was asked for, or syncs a log. It takes no memory but for a fault's text.
     pub fn sync(&mut self, spot: Spot, path: &Name) -> Result<(), Option<Fault>> {
         if self.is_spoilt {
             return Err(None);
         }
         let at = self.handles.place_of(spot);
-        let synced = self.sync_place(at, path);
+        let synced = if path.reserved() {
+            self.sync_log(at, path)
+        } else {
+            self.handles.note(self.rt.alloc(), at)
+        };
         self.is_spoilt = synced.is_err();
         match synced {
             Ok(()) => Ok(()),
@@ -224,15 +240,15 @@ where
         }
     }
 
-    fn sync_place(&mut self, at: usize, path: &Name) -> Result<(), Fault> {
+    // Syncs a log, and before it all that was noted and all entries of folders that aren't stable.
+    fn sync_log(&mut self, at: usize, path: &Name) -> Result<(), Fault> {
         let alloc = self.rt.alloc();
+        self.handles.settle(alloc, Due::Noted)?;
         if path.text() == LOG {
             self.renew_log(at)?;
         }
-        if path.reserved() {
-            self.folders.sync(&self.rt, alloc)?;
-        }
-        self.sync_file(at)
+        self.folders.sync(&self.rt, alloc)?;
+        self.handles.sync(alloc, at)
     }
 
     // Puts a copy of the log that was there before this session in its place. Where the sync of an
@@ -259,32 +275,10 @@ where
         }
     }
 
-    // Syncs a file to which something was written.
-    fn sync_written(&mut self, at: usize) -> Result<(), Fault> {
-        match self.handles.get(at) {
-            Some(handle) if handle.is_dirty => self.sync_file(at),
-            _ => Ok(()),
-        }
-    }
-
-    fn sync_file(&mut self, at: usize) -> Result<(), Fault> {
-        let alloc = self.rt.alloc();
-        let Some(handle) = self.handles.get(at) else {
-            let reason = io::Error::from(ErrorKind::NotFound);
-            return Err(Fault::of("syncing", String::new(alloc), reason));
-        };
-        match handle.file.sync_data() {
-            Ok(()) => {
-                handle.is_dirty = false;
-                Ok(())
-            }
-            Err(reason) => Err(Fault::at(alloc, "syncing", handle.full.as_str(), reason)),
-        }
-    }
-
-    // Renames a file, and makes that and all entries of folders stable. All memory is taken before.
+    // Renames a file behind all that is to be stable before, and makes that stable, too. All memory is
+    // taken before it is renamed.
     pub fn put_in_place(&mut self, from: &Name, to: &Name) -> Result<(), Trouble> {
-        self.sound()?;
+        self.settle()?;
         let source = self.full(from.text())?;
         let target = self.full(to.text())?;
         self.reach(source.as_str(), false)?;
@@ -296,6 +290,31 @@ where
         self.folders.list(target.as_str());
         self.handles.rename(source.as_str(), target);
         self.own_log(to);
+        self.settle_entries()
+    }
+
+    // Before anything is done to a log, all that it may speak of is stable.
+    fn settle_before(&mut self, path: &Name) -> Result<(), Trouble> {
+        if path.reserved() {
+            self.settle()?;
+        }
+        Ok(())
+    }
+
+    // Syncs the files that were noted, and all entries of folders that aren't stable.
+    fn settle(&mut self) -> Result<(), Trouble> {
+        self.settle_files(Due::Noted)?;
+        self.settle_entries()
+    }
+
+    // Syncs the files of which so much is due or more. Behind a sync that failed none is tried.
+    fn settle_files(&mut self, least: Due) -> Result<(), Trouble> {
+        self.sound()?;
+        let synced = self.handles.settle(self.rt.alloc(), least);
+        self.judge(synced)
+    }
+
+    fn settle_entries(&mut self) -> Result<(), Trouble> {
         let alloc = self.rt.alloc();
         let synced = self.folders.sync(&self.rt, alloc);
         self.judge(synced)

@@ -1,6 +1,8 @@
 // Files that stay open, by their paths, and the spots on them.
-use crate::trouble::Trouble;
+use crate::trouble::{Fault, Trouble};
 use std::alloc::{AllocError, Global};
+use std::fs::OpenFile;
+use std::io::{self, ErrorKind};
 use wdt_units::Spot;
 
 // So many files stay open; fewer than half of them can be entered.
@@ -9,6 +11,17 @@ const MOST: usize = 64;
 // So many spots can be entered.
 const SPOTS: usize = 32;
 
+// What is to be done for a file before its bytes are stable, from the least on.
+#[derive(Clone, Copy, PartialEq, Eq, PartialOrd, Ord)]
+pub enum Due {
+    // Nothing was written since its last sync.
+    Nothing,
+    // Something was.
+    Written,
+    // A sync was asked for, and has to be made before a log is touched.
+    Noted,
+}
+
 // An open file.
 #[derive(Drop)]
 pub struct Handle<F: Drop> {
@@ -16,8 +29,7 @@ pub struct Handle<F: Drop> {
     pub file: F,
     // Whether it is open for writing too.
     pub writes: bool,
-    // Whether something was written since its last sync.
-    pub is_dirty: bool,
+    pub due: Due,
     // How many spots are on it, and when it was used last.
     spots: u32,
     used: u64,
@@ -108,7 +120,7 @@ impl<F: Drop> Handles<F> {
             if let Some(handle) = self.get(at) {
                 handle.file = file;
                 handle.writes = writes;
-                handle.is_dirty = false;
+                handle.due = Due::Nothing;
                 handle.used = used;
             }
             return at;
@@ -117,7 +129,7 @@ impl<F: Drop> Handles<F> {
             full,
             file,
             writes,
-            is_dirty: false,
+            due: Due::Nothing,
             spots: 0,
             used,
         })
@@ -161,12 +173,12 @@ impl<F: Drop> Handles<F> {
         }
     }
 
-    // No path leads to the file of this one any more. It is the first to be closed.
+    // Perhaps no path leads to the file of this one any more. It is the first to be closed, and what is
+    // due of it stays due: it may still stand where the call that was to take it away has failed.
     pub fn forget(&mut self, full: &str) {
         if let Some(at) = self.find(full) {
             if let Some(handle) = self.get(at) {
                 handle.full.clear();
-                handle.is_dirty = false;
                 handle.used = 0;
             }
         }
@@ -185,4 +197,61 @@ impl<F: Drop> Handles<F> {
     pub fn close_all(&mut self) {
         self.list.clear();
     }
+}
+
+impl<F: OpenFile + Drop> Handles<F> {
+    // Whether a file has to be synced before it is closed.
+    pub fn is_due(&mut self, at: usize) -> bool {
+        match self.get(at) {
+            Some(handle) => handle.due != Due::Nothing,
+            None => false,
+        }
+    }
+
+    // Notes that a sync of a file was asked for. It takes no memory but for a fault's text.
+    pub fn note(&mut self, alloc: Global, at: usize) -> Result<(), Fault> {
+        match self.get(at) {
+            Some(handle) => {
+                handle.due = Due::Noted;
+                Ok(())
+            }
+            None => Err(not_open(alloc)),
+        }
+    }
+
+    // Syncs the files of which so much is due or more, one after the other, up to the first that fails.
+    // It takes no memory but for a fault's text.
+    pub fn settle(&mut self, alloc: Global, least: Due) -> Result<(), Fault> {
+        for at in 0..self.list.len() {
+            match self.get(at) {
+                Some(handle) if handle.due >= least => handle.sync(alloc)?,
+                _ => {}
+            }
+        }
+        Ok(())
+    }
+
+    pub fn sync(&mut self, alloc: Global, at: usize) -> Result<(), Fault> {
+        match self.get(at) {
+            Some(handle) => handle.sync(alloc),
+            None => Err(not_open(alloc)),
+        }
+    }
+}
+
+impl<F: OpenFile + Drop> Handle<F> {
+    fn sync(&mut self, alloc: Global) -> Result<(), Fault> {
+        match self.file.sync_data() {
+            Ok(()) => {
+                self.due = Due::Nothing;
+                Ok(())
+            }
+            Err(reason) => Err(Fault::at(alloc, "syncing", self.full.as_str(), reason)),
+        }
+    }
+}
+
+fn not_open(alloc: Global) -> Fault {
+    let reason = io::Error::from(ErrorKind::NotFound);
+    Fault::of("syncing", String::new(alloc), reason)
 }

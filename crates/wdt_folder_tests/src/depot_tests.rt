@@ -20,12 +20,12 @@ const ANEW: &str = "ok: new .wlog.new, write 0..7 .wlog.new, write 4..7 .wlog.ne
 
 const ENTRIES_AND_FILES_ARE_STABLE_BEFORE_THE_LOG: [(Step, &str); 15] = [
     (Make(".wlog.new"), "ok: new .wlog.new"),
+    // The root and what it is in may have new entries of an earlier run.
     (
         Write(".wlog.new", 0, "seven.."),
-        "ok: write 0..7 .wlog.new, write 4..7 .wlog.new",
+        "ok: fsync .., fsync ., write 0..7 .wlog.new, write 4..7 .wlog.new",
     ),
-    // The root and what it is in may have new entries of an earlier run.
-    (Sync(".wlog.new"), "ok: fsync .., fsync ., sync .wlog.new"),
+    (Sync(".wlog.new"), "ok: sync .wlog.new"),
     (
         Place(".wlog.new", ".wlog"),
         "ok: move .wlog.new, to .wlog, fsync .",
@@ -35,13 +35,13 @@ const ENTRIES_AND_FILES_ARE_STABLE_BEFORE_THE_LOG: [(Step, &str); 15] = [
         "ok: mkdir sub, mkdir sub/deep, new sub/deep/a",
     ),
     (Write("sub/deep/a", 0, "hi"), "ok: write 0..2 sub/deep/a"),
-    (Sync("sub/deep/a"), "ok: sync sub/deep/a"),
+    (Sync("sub/deep/a"), "ok"),
     (Make("sub/b"), "ok: new sub/b"),
-    (Write(".wlog", 7, "more"), "ok: write 7..11 .wlog.new"),
     (
-        Sync(".wlog"),
-        "ok: fsync ., fsync sub, fsync sub/deep, sync .wlog.new",
+        Write(".wlog", 7, "more"),
+        "ok: sync sub/deep/a, fsync ., fsync sub, fsync sub/deep, write 7..11 .wlog.new",
     ),
+    (Sync(".wlog"), "ok: sync .wlog.new"),
     // The gate.
     (Write(".wlog", 6, "1"), "ok: write 6..7 .wlog.new"),
     (Sync(".wlog"), "ok: sync .wlog.new"),
@@ -55,6 +55,89 @@ const ENTRIES_AND_FILES_ARE_STABLE_BEFORE_THE_LOG: [(Step, &str); 15] = [
 fn entries_and_files_are_stable_before_the_log(rt: HostRuntime) -> Result<(), Fail> {
     assert_eq!(rt;
         play(&rt, &ENTRIES_AND_FILES_ARE_STABLE_BEFORE_THE_LOG)?.as_str(),
+        ""
+    );
+    Ok(())
+}
+
+const FILES_ARE_SYNCED_TOGETHER_BEFORE_A_LOG_IS_TOUCHED: [(Step, &str); 27] = [
+    (Make(".wlog"), "ok: new .wlog"),
+    (Make("a"), "ok: new a"),
+    (Write("a", 0, "hi"), "ok: write 0..2 a"),
+    (Make("b"), "ok: new b"),
+    (Write("b", 0, "hi"), "ok: write 0..2 b"),
+    (Make("c"), "ok: new c"),
+    (Write("c", 0, "hi"), "ok: write 0..2 c"),
+    (Sync("a"), "ok"),
+    (Sync("b"), "ok"),
+    // What is written meanwhile is synced, too.
+    (Write("b", 1, "o"), "ok: write 1..2 b"),
+    (Sync("a"), "ok"),
+    (
+        Write(".wlog", 0, "log"),
+        "ok: sync a, sync b, fsync .., fsync ., write 0..3 .wlog",
+    ),
+    (Sync("c"), "ok"),
+    (Sync(".wlog"), "ok: sync c, sync .wlog"),
+    (Write(".wlog", 3, "1"), "ok: write 3..4 .wlog"),
+    (Sync("a"), "ok"),
+    (Make(".wlog.new"), "ok: sync a, new .wlog.new"),
+    (Sync("b"), "ok"),
+    (
+        Place("c", "d"),
+        "ok: sync b, fsync ., move c, to d, fsync .",
+    ),
+    // Not what stood at the path of a new file, but what is put in place under another name.
+    (Sync("a"), "ok"),
+    (Make("a"), "ok: unlink a, new a"),
+    (Sync("d"), "ok"),
+    (
+        Write(".wlog", 3, "2"),
+        "ok: sync c, fsync ., write 3..4 .wlog",
+    ),
+    // A new session knows of no sync that was asked for.
+    (Sync("b"), "ok"),
+    (Reopen, "ok"),
+    (
+        Write(".wlog", 4, "3"),
+        "ok: fsync .., fsync ., write 4..5 .wlog",
+    ),
+    (Holds(".wlog", "log23"), "ok"),
+];
+
+#[test]
+fn files_are_synced_together_before_a_log_is_touched(rt: HostRuntime) -> Result<(), Fail> {
+    assert_eq!(rt;
+        play(&rt, &FILES_ARE_SYNCED_TOGETHER_BEFORE_A_LOG_IS_TOUCHED)?.as_str(),
+        ""
+    );
+    Ok(())
+}
+
+const A_FILE_IS_SYNCED_BEFORE_IT_IS_CLOSED: [(Step, &str); 15] = [
+    (Make("a"), "ok: new a"),
+    (Write("a", 0, "x"), "ok: write 0..1 a"),
+    (Crowd(63), "ok"),
+    // All that are due are synced together, and so the next to be closed needs no sync.
+    (Write("5", 0, "x"), "ok: write 0..1 5"),
+    (Sync("7"), "ok"),
+    (Make("b"), "ok: sync a, sync 5, sync 7, new b"),
+    (Make("c"), "ok: new c"),
+    // Also where a call only looks.
+    (Reopen, "ok"),
+    (Sync("a"), "ok"),
+    (Crowd(63), "ok"),
+    (Read("d", ""), "none: sync a"),
+    (Write("a", 0, "y"), "ok: write 0..1 a"),
+    (Failing("sync a", EIO), "ok"),
+    (Crowd(64), "failed"),
+    (Make("d"), "barred"),
+];
+
+#[test]
+fn a_file_is_synced_before_it_is_closed(rt: HostRuntime) -> Result<(), Fail> {
+    assert_eq!(rt;
+        play(&rt, &A_FILE_IS_SYNCED_BEFORE_IT_IS_CLOSED)?.as_str(),
         ""
     );
     Ok(())
@@ -91,25 +174,38 @@ fn a_log_that_was_there_is_put_in_place_anew(rt: HostRuntime) -> Result<(), Fail
     Ok(())
 }
 
-const NOTHING_IS_CHANGED_BEHIND_A_SYNC_THAT_FAILED: [(Step, &str); 28] = [
+const NOTHING_IS_CHANGED_BEHIND_A_SYNC_THAT_FAILED: [(Step, &str); 35] = [
+    (Make(".wlog"), "ok: new .wlog"),
     (Make("a"), "ok: new a"),
     (Write("a", 0, "hi"), "ok: write 0..2 a"),
+    (Sync("a"), "ok"),
     (Failing("sync a", EIO), "ok"),
-    (Sync("a"), "failed: sync a"),
+    (Write(".wlog", 0, "x"), "failed: sync a"),
+    // A second sync might go well.
+    (Write(".wlog", 0, "x"), "barred"),
+    (Sync(".wlog"), "barred"),
     (Sync("a"), "barred"),
     (Write("a", 0, "x"), "barred"),
     (Make("b"), "barred"),
     (Place("a", "b"), "barred"),
     (Says("syncing", "a: Input/output error (os error 5)"), "ok"),
     (Read("a", "hi"), "ok"),
+    (Holds(".wlog", ""), "ok"),
     (Reopen, "ok"),
     // The folder of a file.
-    (Make(".wlog"), "ok: new .wlog"),
+    (Make(".wlog"), "ok: unlink .wlog, new .wlog"),
     (Failing("fsync .", EIO), "ok"),
-    (Sync(".wlog"), "failed: fsync .., fsync ."),
+    (Write(".wlog", 0, "x"), "failed: fsync .., fsync ."),
     (Sync(".wlog"), "barred"),
+    (Holds(".wlog", ""), "ok"),
     (Reopen, "ok"),
-    // That of a file put in place.
+    // What is to be stable before a file is put in place.
+    (Sync("a"), "ok"),
+    (Failing("sync a", EIO), "ok"),
+    (Place("a", "b"), "failed: sync a"),
+    (Holds("a", "hi"), "ok"),
+    (Reopen, "ok"),
+    // The folder of a file put in place.
     (Failing("fsync .", EIO), "ok"),
     (
         Place(".wlog", "c"),
@@ -117,15 +213,11 @@ const NOTHING_IS_CHANGED_BEHIND_A_SYNC_THAT_FAILED: [(Step, &str); 28] = [
     ),
     (Make("b"), "barred"),
     (Reopen, "ok"),
-    // A file that is closed to make room for another.
-    (Write("a", 0, "x"), "ok: write 0..1 a"),
-    (Crowd(63), "ok"),
-    (Make("b"), "ok: sync a, new b"),
-    (Make("c"), "ok: unlink c, new c"),
-    (Write("a", 0, "y"), "ok: write 0..1 a"),
-    (Failing("sync a", EIO), "ok"),
-    (Crowd(64), "failed"),
-    (Make("d"), "barred"),
+    // A file that couldn't be made anew: what stands there is synced yet.
+    (Sync("a"), "ok"),
+    (Failing("unlink a", EIO), "ok"),
+    (Make("a"), "failed: unlink a"),
+    (Make(".wlog"), "ok: sync a, fsync .., fsync ., new .wlog"),
 ];
 
 #[test]
@@ -166,13 +258,41 @@ fn a_stop_lets_no_call_pass(rt: HostRuntime) -> Result<(), Fail> {
     Ok(())
 }
 
+const A_CALL_THAT_A_STOP_BARS_SYNCS_NOTHING: [(Step, &str); 12] = [
+    (Make(".wlog"), "ok: new .wlog"),
+    (Make("a"), "ok: new a"),
+    (Arm(4), "ok"),
+    (Sync("a"), "ok"),
+    // It counts as one call.
+    (
+        Write(".wlog", 0, "x"),
+        "ok: sync a, fsync .., fsync ., write 0..1 .wlog",
+    ),
+    (Sync("a"), "ok"),
+    (Write(".wlog", 0, "y"), "barred"),
+    (Sync(".wlog"), "barred"),
+    (Make(".wlog"), "barred"),
+    (Make(".wlog.new"), "barred"),
+    (Place("a", "b"), "barred"),
+    (Holds(".wlog", "x"), "ok"),
+];
+
+#[test]
+fn a_call_that_a_stop_bars_syncs_nothing(rt: HostRuntime) -> Result<(), Fail> {
+    assert_eq!(rt;
+        play(&rt, &A_CALL_THAT_A_STOP_BARS_SYNCS_NOTHING)?.as_str(),
+        ""
+    );
+    Ok(())
+}
+
 const NOTHING_OUTSIDE_IS_TOUCHED: [(Step, &str); 26] = [
     (File("aside", "kept"), "ok"),
     // A link on the way.
     (Link(".", "way"), "ok"),
     (Make("way/x"), "failed"),
     (Read("way/aside", "kept"), "failed"),
-    (Place("aside", "way/x"), "failed"),
+    (Place("aside", "way/x"), "failed: fsync .., fsync ."),
     (Place("way/aside", "x"), "failed"),
     // A link, another name, a folder and a file at a file's path.
     (Link("aside", "link"), "ok"),
@@ -184,7 +304,7 @@ const NOTHING_OUTSIDE_IS_TOUCHED: [(Step, &str); 26] = [
     (Make("folder/x"), "ok: mkdir folder, new folder/x"),
     (Make("folder"), "failed"),
     (Read("folder", ""), "failed"),
-    (Place("folder", "x"), "failed"),
+    (Place("folder", "x"), "failed: fsync folder, fsync ."),
     (Make("link/x"), "failed"),
     (Holds("aside", "kept"), "ok"),
     // A file that isn't the one that was looked at.
@@ -208,7 +328,7 @@ const A_SPOT_KEEPS_ITS_FILE: [(Step, &str); 15] = [
     (Read("sub/a", ""), "none"),
     (Write("sub/a", 0, "x"), "failed"),
     (Says("opening", "sub/a: entity not found"), "ok"),
-    (Place("a", "b"), "failed"),
+    (Place("a", "b"), "failed: fsync .., fsync ."),
     (Make("a"), "ok: new a"),
     (Write("a", 2, "cd"), "ok: write 2..4 a"),
     (Read("a", "\0\0cd"), "ok"),
@@ -218,7 +338,7 @@ const A_SPOT_KEEPS_ITS_FILE: [(Step, &str); 15] = [
     // It is neither closed nor opened again.
     (Failing("open a", EIO), "ok"),
     (Hold("a", 100), "ok"),
-    (Place("a", "0"), "ok: move a, to 0, fsync .., fsync ."),
+    (Place("a", "0"), "ok: fsync ., move a, to 0, fsync ."),
     (Read("0", "new"), "ok"),
     (Read("a", ""), "none"),
 ];
