@@ -1,3 +1,4 @@
+pub mod Kept
 pub mod Lines
 pub mod Received
 pub mod Sent

@@ -3,7 +3,7 @@ use Rattle.std.specs.Prelude.{ℕ, Bool, true, false, if◌then◌else◌, List,
 use Rattle.wdt_logfmt.specs.Beginning.{length_of}
 use Rattle.wdt_receiver_fsm.specs.ReceiverHistory.{landed_of}
 use Rattle.wdt_receiver_fsm.specs.declared.events.RecvEvent.{RecvEvent}
-use Rattle.wdt_receiver_fsm.specs.declared.events.RecvEvent.TheVariants.{Land, Close}
+use Rattle.wdt_receiver_fsm.specs.declared.events.RecvEvent.TheVariants.{Take, Land, Close}
 
 -- a block landed
 abbrev pub is_landing : RecvEvent → Bool
@@ -34,3 +34,16 @@ bytes_in g = sum_by length_of (landed_of g)
 -- how many lanes were closed
 abbrev pub closed_in : List RecvEvent → ℕ
 closed_in g = count_by is_closing g
+
+-- a connection was taken
+abbrev pub is_taking : RecvEvent → Bool
+is_taking (Take l c) = true
+is_taking _ = false
+
+-- 1 for a connection
+abbrev pub one_taking : RecvEvent → ℕ
+one_taking e = if is_taking e then 1 else 0
+
+-- how many connections were taken
+abbrev pub taken_in : List RecvEvent → ℕ
+taken_in g = count_by is_taking g

@@ -1,7 +1,9 @@
 -- What is counted of a sender's history.
-use Rattle.std.specs.Prelude.{ℕ, ◌+◌, ◌-◌, Bool, true, false, if◌then◌else◌, List, [], ◌∷◌, length, count_by, Option, Some, None}
+use Rattle.std.specs.Prelude.{ℕ, ◌+◌, ◌-◌, Bool, true, false, if◌then◌else◌, List, [], ◌∷◌, length, count_by, sum_by, take, zero, suc, Option, Some, None}
 use Rattle.wdt_claims.specs.LaneWords.{Claims, no_claims}
-use Rattle.wdt_sender_fsm.specs.SenderHistory.{claims_after}
+use Rattle.wdt_units.specs.declared.limits.TheConstants.{MAX_LANES}
+use Rattle.wdt_logfmt.specs.Beginning.{length_of}
+use Rattle.wdt_sender_fsm.specs.SenderHistory.{claims_after, past_of}
 use Rattle.wdt_sender_fsm.specs.declared.events.SendEvent.{SendEvent}
 use Rattle.wdt_sender_fsm.specs.declared.events.SendEvent.TheVariants.{Linked, Greet, Global}
 
@@ -45,3 +47,26 @@ requeued_from claims (e ∷ es) = taken_off claims e + requeued_from (all_after 
 -- how many blocks a history takes off lists
 abbrev pub requeued_in : List SendEvent → ℕ
 requeued_in h = requeued_from (λ l. no_claims) h
+
+-- ---- what has surely landed
+
+-- a number of each lane below n, added up
+abbrev pub over_lanes : (ℕ → ℕ) → ℕ → ℕ
+over_lanes number zero = 0
+over_lanes number (suc n) = over_lanes number n + number n
+
+-- how many blocks of a lane have surely landed
+abbrev pub sure_of : List SendEvent → ℕ → ℕ
+sure_of h l = (past_of h l).claims.sure
+
+-- how many bytes they have
+abbrev pub sure_bytes_of : List SendEvent → ℕ → ℕ
+sure_bytes_of h l = sum_by length_of (take (past_of h l).claims.sure (past_of h l).claims.kept)
+
+-- how many blocks have surely landed on the lanes that a transfer may have
+abbrev pub sure_blocks_in : List SendEvent → ℕ
+sure_blocks_in h = over_lanes (sure_of h) MAX_LANES
+
+-- how many bytes they have
+abbrev pub sure_bytes_in : List SendEvent → ℕ
+sure_bytes_in h = over_lanes (sure_bytes_of h) MAX_LANES

@@ -29,6 +29,13 @@ impl Model for Lines {
 }
 
 impl Lines {
+    /// Lines of this text.
+    pub(crate) fn of(text: String) -> Lines
+        ensures { result ≡ string_bytes text }
+    {
+        Lines { text }
+    }
+
     /// The bytes of the lines, taken out.
     pub fn into_bytes(self) -> Vec<u8>
         ensures { result.items ≡ self }
@@ -67,7 +74,7 @@ pub fn copy_lines(
     let made = sum_sent(sent);
     let landed = sum_received(received);
     match seven_lines(alloc, files, &landed, &made, sent.len()) {
-        Ok(text) => Ok(Lines { text }),
+        Ok(text) => Ok(Lines::of(text)),
         Err(_) => Err(NoMemory),
     }
 }

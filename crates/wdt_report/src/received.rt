@@ -1,6 +1,6 @@
 //! What a receiver's history tells.
 ghost use Rattle.std.specs.Prelude.{◌≡◌, ◌<◌, ◌^◌, length};
-ghost use Rattle.wdt_report.specs.Received.{blocks_in, bytes_in, closed_in, one_closing, one_landing};
+ghost use Rattle.wdt_report.specs.Received.{blocks_in, bytes_in, closed_in, one_closing, one_landing, one_taking, taken_in};
 ghost use Rattle.wdt_report.specs.Tables.{HasBegunPlace, begun_noted, landing};
 
 use crate::lanes::ALL_LANES;
@@ -38,6 +38,27 @@ pub fn count_received(history: &[RecvEvent]) -> Received
         blocks,
         bytes,
         closed,
+    }
+}
+
+/// How many connections were taken.
+pub fn count_takes(history: &[RecvEvent]) -> u64
+    ensures { result ≡ taken_in history.now }
+{
+    let mut takes = 0;
+    for event in history {
+        takes += one_taking(event);
+    }
+    takes
+}
+
+// 1 for a connection.
+fn one_taking(event: &RecvEvent) -> u64
+    ensures { result ≡ one_taking event.now }
+{
+    match *event {
+        RecvEvent::Take(..) => 1,
+        _ => 0,
     }
 }
 

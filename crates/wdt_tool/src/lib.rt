@@ -28,4 +28,5 @@ pub use fail::CommandFail;
 pub use listing::listed;
 pub use report::last_line;
 pub use status::{Status, Tooled};
+pub use stored::stored_have;
 pub use top_call::tool;

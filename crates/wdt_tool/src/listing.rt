@@ -17,6 +17,7 @@ pub fn listed<S: Source>(alloc: Global, source: &mut S) -> Result<Manifest, Comm
     ensures refused { IfErr result (IsListedFail (S.listing source.old)) }
     ensures later { S.faults source.old ≤ S.faults source.new }
     ensures cause { IsErrOf result CommandFail.Source → Rises (S.faults source.old) (S.faults source.new) }
+    ensures told { S.told source.new ≡ S.told source.old }
     ensures slips { S.slips source.new ≡ S.slips source.old }
 {
     match source.list(alloc) {

@@ -1,5 +1,5 @@
 -- The options of a command.
-use Rattle.std.specs.Prelude.{ℕ, List, [], ◌∷◌, Option, Some, None, option_and_then, option_map, IfSome, if◌then◌else◌, codes}
+use Rattle.std.specs.Prelude.{ℕ, List, [], ◌∷◌, Option, Some, None, option_and_then, option_map, IfSome, if◌then◌else◌, Bool, true, false, codes}
 use Rattle.std.specs.Str.{bytes_eq}
 use Rattle.wdt_units.specs.declared.limits.TheConstants.{DEFAULT_BATCH, DEFAULT_BLOCK, MAX_BATCH, MAX_BLOCK, MAX_LANES}
 use Rattle.wdt_words.specs.Numbers.{number_in, IsWithin}
@@ -7,19 +7,39 @@ use Rattle.wdt_words.specs.declared.options.Form.{Form}
 use Rattle.wdt_words.specs.declared.options.Form.TheVariants as forms
 use Rattle.wdt_words.specs.declared.options.Options.{Options}
 use Rattle.wdt_words.specs.declared.options.Setting.{Setting}
-use Rattle.wdt_words.specs.declared.options.Setting.TheVariants.{Lanes, Block, Batch}
-use Rattle.wdt_words.specs.declared.options.TheConstants.{DEFAULT_LANES}
+use Rattle.wdt_words.specs.declared.options.Setting.TheVariants.{Lanes, Block, Batch, Session}
+use Rattle.wdt_words.specs.declared.options.TheConstants.{DEFAULT_LANES, DEFAULT_SESSION, MAX_SESSION}
 
 -- ---- names
 
--- the option of this name, of those that not every form takes
-abbrev pub other_setting : Form → List ℕ → Option Setting
-other_setting forms.Plan name = None
-other_setting forms.Copy name = if bytes_eq name (codes "--lanes") then Some Lanes else if bytes_eq name (codes "--batch") then Some Batch else None
+-- the option of this name
+abbrev pub named_setting : List ℕ → Option Setting
+named_setting name =
+    if bytes_eq name (codes "--lanes") then Some Lanes
+    else if bytes_eq name (codes "--block") then Some Block
+    else if bytes_eq name (codes "--batch") then Some Batch
+    else if bytes_eq name (codes "--session") then Some Session
+    else None
+
+-- whether a form takes an option
+abbrev pub takes : Form → Setting → Bool
+takes forms.Plan Block = true
+takes forms.Plan other = false
+takes forms.Copy Session = false
+takes forms.Copy other = true
+takes forms.Send Batch = false
+takes forms.Send other = true
+takes forms.Recv Lanes = true
+takes forms.Recv Batch = true
+takes forms.Recv other = false
+
+-- an option, if the form takes it
+abbrev pub taken_by : Form → Setting → Option Setting
+taken_by form setting = if takes form setting then Some setting else None
 
 -- the option of this name, if the form takes one
 abbrev pub setting_of : Form → List ℕ → Option Setting
-setting_of form name = if bytes_eq name (codes "--block") then Some Block else other_setting form name
+setting_of form name = option_and_then (taken_by form) (named_setting name)
 
 -- ---- values
 
@@ -28,6 +48,7 @@ abbrev pub greatest_of : Setting → ℕ
 greatest_of Lanes = MAX_LANES
 greatest_of Block = MAX_BLOCK
 greatest_of Batch = MAX_BATCH
+greatest_of Session = MAX_SESSION
 
 -- a value that an option may have
 abbrev pub IsValueOf : Setting → ℕ → Type 0
@@ -38,24 +59,27 @@ abbrev pub value_of : Options → Setting → Option ℕ
 value_of options Lanes = options.lanes
 value_of options Block = options.block
 value_of options Batch = options.batch
+value_of options Session = options.session
 
 -- the options with a value for one of them
 abbrev pub with_value : Options → Setting → ℕ → Options
 with_value options Lanes value = record options { lanes = Some value }
 with_value options Block value = record options { block = Some value }
 with_value options Batch value = record options { batch = Some value }
+with_value options Session value = record options { session = Some value }
 
 -- each option that is given has a value that it may have
 pub record AreWithin (options : Options) : Type 0 where
   pub lanes : IfSome options.lanes (IsWithin 1 MAX_LANES)
   pub block : IfSome options.block (IsWithin 1 MAX_BLOCK)
   pub batch : IfSome options.batch (IsWithin 1 MAX_BATCH)
+  pub session : IfSome options.session (IsWithin 1 MAX_SESSION)
 
 -- ---- words
 
 -- no option was read yet
 abbrev pub no_options : Options
-no_options = record { lanes = None; block = None; batch = None }
+no_options = record { lanes = None; block = None; batch = None; session = None }
 
 -- what is given, unless it was given before
 abbrev pub once : Option ℕ → Option ℕ → Option ℕ
@@ -103,3 +127,7 @@ block_of options = number_or DEFAULT_BLOCK options.block
 -- from so many bytes on what has landed is logged
 abbrev pub batch_of : Options → ℕ
 batch_of options = number_or DEFAULT_BATCH options.batch
+
+-- the number of the session
+abbrev pub session_of : Options → ℕ
+session_of options = number_or DEFAULT_SESSION options.session

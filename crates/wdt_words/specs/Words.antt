@@ -1,7 +1,6 @@
 -- The forms of words, and what each names.
-use Rattle.std.specs.Prelude.{ℕ, ◌≤◌, Bool, false, not, ◌==◌, ◌&&◌, List, [], ◌∷◌, slice_get, Option, Some, None, option_map, if◌then◌else◌, codes}
+use Rattle.std.specs.Prelude.{ℕ, ◌≤◌, Bool, false, not, ◌==◌, ◌&&◌, List, [], ◌∷◌, Option, Some, None, option_map, if◌then◌else◌, codes}
 use Rattle.std.specs.Str.{bytes_eq}
-use Rattle.wdt_words.specs.Named.{PlainNamed}
 use Rattle.wdt_units.specs.declared.limits.TheConstants.{MAX_BATCH, MAX_BLOCK, MAX_LANES}
 use Rattle.wdt_words.specs.Numbers.{IsWithin}
 use Rattle.wdt_words.specs.Options.{batch_of, block_of, lanes_of, options_of}
@@ -88,43 +87,3 @@ pub record IsLimited (lanes block batch : ℕ) : Type 0 where
 -- the same of a transfer's own
 abbrev pub HasLimits : Transfer → Type 0
 HasLimits (Copy lanes block batch) = IsLimited lanes block batch
-
--- ---- what a form names
-
--- a text, or an empty one in its place
-abbrev pub text_or : Option (List ℕ) → List ℕ
-text_or None = []
-text_or (Some text) = text
-
--- the word at a place, from 0
-abbrev pub word_at : List (List ℕ) → ℕ → List ℕ
-word_at words at = text_or (slice_get words at)
-
--- the folder to copy from, where the command has one
-abbrev pub source_of : List (List ℕ) → Command → List ℕ
-source_of words Rehearse = word_at words 1
-source_of words (Plan block) = word_at words 1
-source_of words Log = []
-
--- the folder to copy to, where the command has one
-abbrev pub dest_of : List (List ℕ) → Command → List ℕ
-dest_of words Rehearse = []
-dest_of words (Plan block) = word_at words 2
-dest_of words Log = word_at words 1
-
--- what the words name, as a form of a command
-abbrev pub named_by : List (List ℕ) → Command → PlainNamed
-named_by words command = record { source = source_of words command; dest = dest_of words command; host = []; port = 0; lanes = 1 }
-
--- what the words name, as a form of a transfer
-abbrev pub named_in : List (List ℕ) → Transfer → PlainNamed
-named_in words (Copy lanes block batch) = record { source = word_at words 1; dest = word_at words 2; host = []; port = 0; lanes = lanes }
-
--- the first, or else the other
-abbrev pub first_of : Option PlainNamed → Option PlainNamed → Option PlainNamed
-first_of None other = other
-first_of (Some named) other = Some named
-
--- what the words name, where they are a form
-abbrev pub named_of : List (List ℕ) → Option PlainNamed
-named_of words = first_of (option_map (named_by words) (command_of words)) (option_map (named_in words) (transfer_of words))

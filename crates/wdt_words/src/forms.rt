@@ -128,14 +128,15 @@ fn copy_form(words: &[String]) -> Result<Transfer, Misread>
     }
 }
 
-fn wrong<C>(left: usize, expected: Expected) -> Result<C, Misread>
+/// Words of which the first wrong one has so many behind it, itself counted.
+pub fn wrong<C>(left: usize, expected: Expected) -> Result<C, Misread>
     ensures { result ≡ Err (record { left = left; expected = expected }) }
 {
     Err(Misread { left, expected })
 }
 
-// Whether a word may name a folder.
-fn is_name(word: &str) -> bool
+/// Whether a word may name a folder or a host.
+pub fn is_name(word: &str) -> bool
     ensures { result ≡ is_name word.now }
 {
     match word.as_bytes() {

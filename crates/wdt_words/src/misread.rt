@@ -17,6 +17,10 @@ pub enum Expected {
     Source,
     /// The folder to copy to, by the same rule.
     Dest,
+    /// The host to send to, or the address to listen on: not empty, and not begun with `-`.
+    Host,
+    /// The port of the first lane: a number as of an option, from 1 to 65,520.
+    Port,
     /// An option of the command, or the end of the words.
     Setting,
     /// The end of the words, since the command takes no option.
@@ -25,5 +29,5 @@ pub enum Expected {
     Once,
     /// The value of the option before: a number in decimal digits, without a leading zero, from the
     /// least to the greatest.
-    Number { least: u32, greatest: u32 },
+    Number { least: u64, greatest: u64 },
 }

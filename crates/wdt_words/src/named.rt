@@ -1,9 +1,10 @@
 //! What a form of a command names.
 ghost use Rattle.std.specs.Prelude.{◌≡◌, map, string_bytes, IfOk};
-ghost use Rattle.wdt_words.specs.Words.{named_by, named_in, named_of, word_at};
+ghost use Rattle.wdt_words.specs.Named.{named_at, named_by, named_in, named_of, word_at};
 
-use crate::command::{Command, Transfer};
+use crate::command::{Command, Remote, Transfer};
 use crate::forms::{command_of, transfer_of};
+use crate::remote::remote_of;
 use std::alloc::{AllocError, Global};
 use std::marker::Model;
 use wdt_units::NoMemory;
@@ -16,7 +17,9 @@ pub struct Named {
     pub source: String,
     /// The folder to copy to.
     pub dest: String,
+    /// The host to send to, or the address to listen on.
     pub host: String,
+    /// The port of the first lane there.
     pub port: u16,
     /// How many lanes, 1 to 16.
     pub lanes: u8,
@@ -33,16 +36,15 @@ impl Model for Named {
     ghost invariant = { λ _. Unit {0} };
 }
 
-/// What the words name, or None exactly where they are no form of a command or transfer.
+/// What the words name, or None exactly where they are no form.
 pub fn folders_of(alloc: Global, words: &[String]) -> Result<Option<Named>, NoMemory>
     ensures { IfOk result (λ found. found ≡ named_of (map string_bytes words.now)) }
 {
-    let made = match command_of(words) {
-        Some(command) => made_by(alloc, words, command),
-        None => match transfer_of(words) {
-            Some(transfer) => made_in(alloc, words, transfer),
-            None => return Ok(None),
-        },
+    let made = match (command_of(words), transfer_of(words), remote_of(words)) {
+        (Some(command), _, _) => made_by(alloc, words, command),
+        (None, Some(transfer), _) => made_in(alloc, words, transfer),
+        (None, None, Some(remote)) => made_at(alloc, words, remote),
+        (None, None, None) => return Ok(None),
     };
     match made {
         Ok(named) => Ok(Some(named)),
@@ -78,6 +80,23 @@ fn made_in(alloc: Global, words: &[String], transfer: Transfer) -> Result<Named,
         dest: String::from_str(alloc, word(words, 2))?,
         host: String::new(alloc),
         port: 0,
+        lanes,
+    })
+}
+
+// What the words of a command to or from another machine name.
+fn made_at(alloc: Global, words: &[String], remote: Remote) -> Result<Named, AllocError>
+    ensures { IfOk result (λ named. named ≡ named_at (map string_bytes words.now) remote) }
+{
+    let (source, dest, port, lanes) = match remote {
+        Remote::Send { port, lanes, .. } => (word(words, 1), "", port, lanes),
+        Remote::Recv { port, lanes, .. } => ("", word(words, 1), port, lanes),
+    };
+    Ok(Named {
+        source: String::from_str(alloc, source)?,
+        dest: String::from_str(alloc, dest)?,
+        host: String::from_str(alloc, word(words, 2))?,
+        port,
         lanes,
     })
 }

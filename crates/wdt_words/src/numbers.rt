@@ -5,7 +5,7 @@ ghost use Rattle.wdt_words.specs.Numbers.{number_in, within, IsWithin};
 use wdt_units::number_of;
 
 // The number that the word spells, where it is within the limits.
-pub fn number_in(low: u32, high: u32, word: &str) -> Option<u32>
+pub fn number_in(low: u64, high: u64, word: &str) -> Option<u64>
     ensures value { result ≡ number_in low high word.now }
     ensures within { IfSome result (IsWithin low high) }
 {
@@ -15,12 +15,12 @@ pub fn number_in(low: u32, high: u32, word: &str) -> Option<u32>
     }
 }
 
-fn within(low: u32, high: u32, number: u64) -> Option<u32>
+fn within(low: u64, high: u64, number: u64) -> Option<u64>
     ensures value { result ≡ within low high number }
     ensures within { IfSome result (IsWithin low high) }
 {
-    if u64::from(low) <= number && number <= u64::from(high) {
-        Some(number as u32)
+    if low <= number && number <= high {
+        Some(number)
     } else {
         None
     }

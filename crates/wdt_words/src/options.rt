@@ -1,7 +1,7 @@
 //! The options of a command.
 ghost use Rattle.std.specs.Result.{result_ok};
 ghost use Rattle.std.specs.Prelude.{◌≡◌, ◌≤◌, map, string_bytes, IfOk, IfSome, Some};
-ghost use Rattle.wdt_words.specs.Options.{batch_of, block_of, greatest_of, lanes_of, option_once, option_with, options_from, options_of, setting_of, value_of, with_value, AreWithin, IsValueOf};
+ghost use Rattle.wdt_words.specs.Options.{batch_of, block_of, greatest_of, lanes_of, named_setting, option_once, option_with, options_from, options_of, session_of, setting_of, takes, value_of, with_value, AreWithin, IsValueOf};
 ghost use Rattle.wdt_words.specs.Numbers.{IsWithin};
 
 use crate::misread::{Expected, Misread};
@@ -11,6 +11,12 @@ use wdt_units::{DEFAULT_BATCH, DEFAULT_BLOCK, MAX_BATCH, MAX_BLOCK, MAX_LANES};
 /// How many lanes a transfer has where nothing else is said.
 pub const DEFAULT_LANES: u8 = 4;
 
+/// The greatest number of a session: 2^63 - 1. The least is 1.
+pub const MAX_SESSION: u64 = 9_223_372_036_854_775_807;
+
+/// The number of a session where nothing else is said.
+pub const DEFAULT_SESSION: u64 = 1;
+
 /// A form of words that takes options.
 #[derive(Clone, Copy, Debug, PartialEq, Eq)]
 pub enum Form {
@@ -18,6 +24,24 @@ pub enum Form {
     Plan,
     /// It takes `--lanes`, `--block` and `--batch`.
     Copy,
+    /// It takes `--lanes`, `--block` and `--session`.
+    Send,
+    /// It takes `--lanes` and `--batch`.
+    Recv,
+}
+
+impl Form {
+    // Whether it takes the option.
+    fn takes(self, setting: Setting) -> bool
+        ensures { result ≡ takes self setting }
+    {
+        match self {
+            Form::Plan => matches!(setting, Setting::Block),
+            Form::Copy => !matches!(setting, Setting::Session),
+            Form::Send => !matches!(setting, Setting::Batch),
+            Form::Recv => matches!(setting, Setting::Lanes | Setting::Batch),
+        }
+    }
 }
 
 /// An option.
@@ -26,17 +50,19 @@ pub enum Setting {
     Lanes,
     Block,
     Batch,
+    Session,
 }
 
 impl Setting {
     // The greatest value. The least is 1.
-    fn greatest(self) -> u32
+    fn greatest(self) -> u64
         ensures { result ≡ greatest_of self }
     {
         match self {
-            Setting::Lanes => u32::from(MAX_LANES),
-            Setting::Block => MAX_BLOCK,
-            Setting::Batch => MAX_BATCH,
+            Setting::Lanes => u64::from(MAX_LANES),
+            Setting::Block => u64::from(MAX_BLOCK),
+            Setting::Batch => u64::from(MAX_BATCH),
+            Setting::Session => MAX_SESSION,
         }
     }
 }
@@ -45,11 +71,13 @@ impl Setting {
 #[derive(Clone, Copy, Debug, PartialEq, Eq)]
 pub struct Options {
     /// How many lanes, 1 to 16.
-    pub lanes: Option<u32>,
+    pub lanes: Option<u64>,
     /// The most bytes of a block, 1 to 67,108,864.
-    pub block: Option<u32>,
+    pub block: Option<u64>,
     /// From so many bytes on what has landed is logged, 1 to 1,073,741,824.
-    pub batch: Option<u32>,
+    pub batch: Option<u64>,
+    /// The number of the session, 1 to 2^63 - 1.
+    pub session: Option<u64>,
 }
 
 impl Options {
@@ -57,6 +85,7 @@ impl Options {
         lanes: None,
         block: None,
         batch: None,
+        session: None,
     };
 
     /// How many lanes.
@@ -78,7 +107,7 @@ impl Options {
         ensures within { IsWithin 1 MAX_BLOCK result }
     {
         match self.block {
-            Some(block) => block,
+            Some(block) => block as u32,
             None => DEFAULT_BLOCK,
         }
     }
@@ -90,24 +119,37 @@ impl Options {
         ensures within { IsWithin 1 MAX_BATCH result }
     {
         match self.batch {
-            Some(batch) => batch,
+            Some(batch) => batch as u32,
             None => DEFAULT_BATCH,
         }
     }
 
+    /// The number of the session.
+    pub fn session(&self) -> u64
+        requires { AreWithin self.now }
+        ensures value { result ≡ session_of self.now }
+        ensures within { IsWithin 1 MAX_SESSION result }
+    {
+        match self.session {
+            Some(session) => session,
+            None => DEFAULT_SESSION,
+        }
+    }
+
     // The value of an option, where it is given.
-    fn value(&self, setting: Setting) -> Option<u32>
+    fn value(&self, setting: Setting) -> Option<u64>
         ensures { result ≡ value_of self.now setting }
     {
         match setting {
             Setting::Lanes => self.lanes,
             Setting::Block => self.block,
             Setting::Batch => self.batch,
+            Setting::Session => self.session,
         }
     }
 
     // The same with a value for an option.
-    fn with(self, setting: Setting, value: u32) -> Options
+    fn with(self, setting: Setting, value: u64) -> Options
         requires before { AreWithin self }
         requires value { IsValueOf setting value }
         ensures value { result ≡ with_value self setting value }
@@ -125,6 +167,10 @@ impl Options {
             },
             Setting::Batch => Options {
                 batch: given,
+                ..self
+            },
+            Setting::Session => Options {
+                session: given,
                 ..self
             },
         }
@@ -191,17 +237,27 @@ fn number_of(setting: Setting) -> Expected {
 fn setting_of(form: Form, name: &str) -> Option<Setting>
     ensures { result ≡ setting_of form name.now }
 {
-    if name == "--block" {
-        return Some(Setting::Block);
+    match named_setting(name) {
+        Some(setting) if form.takes(setting) => Some(setting),
+        _ => None,
     }
-    if form == Form::Plan {
-        return None;
-    }
+}
+
+// The option of this name.
+fn named_setting(name: &str) -> Option<Setting>
+    ensures { result ≡ named_setting name.now }
+{
     if name == "--lanes" {
         return Some(Setting::Lanes);
     }
+    if name == "--block" {
+        return Some(Setting::Block);
+    }
     if name == "--batch" {
         return Some(Setting::Batch);
+    }
+    if name == "--session" {
+        return Some(Setting::Session);
     }
     None
 }
@@ -219,7 +275,7 @@ fn option_with(form: Form, read: Options, name: &str, value: &str) -> Result<Opt
 }
 
 // A value that is given for the first time.
-fn option_once(read: Options, setting: Setting, given: Option<u32>) -> Result<Options, Expected>
+fn option_once(read: Options, setting: Setting, given: Option<u64>) -> Result<Options, Expected>
     requires read { AreWithin read }
     requires given { IfSome given (IsValueOf setting) }
     ensures value { result_ok result ≡ option_once read setting given }
