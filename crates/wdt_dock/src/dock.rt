@@ -208,6 +208,7 @@ impl<D: Depot + Drop> Dock<D> {
         ensures heard { IsHeard self.plain.answer self.plain.history }
         ensures logged { is_failure self.plain.answer ≡ false → IfTold (λ t. AllLogged self.plain t.now) (D.state result.0).told }
         ensures finished { has_finish self.plain ≡ true → (HasLostDisk self.plain.answer → ⊥) → IfTold (λ t. EachLogged self.plain t.now) (D.state result.0).told }
+        ensures rests { (HasLostDisk self.plain.answer → ⊥) → LogRests self.plain (D.state result.0) }
     {
         // What the log said as it was opened is a view.
         let _opening = self.end.opening();

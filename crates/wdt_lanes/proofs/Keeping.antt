@@ -1,5 +1,5 @@
 -- A step of a sender's end that is of its run: what it is handed and what it gives are the run's, and it stays of the run.
-use Rattle.std.proofs.Common.{◌≡◌, ℕ, ◌+◌, ◌-◌, ◌^◌, ◌≤◌, true, List, [], ◌∷◌, length, map, slice_get, Option, Some, None, Result, Ok, Err, refl, sym, ap, ◌∙◌, subst}
+use Rattle.std.proofs.Common.{◌≡◌, ℕ, ◌+◌, ◌-◌, ◌^◌, ◌≤◌, Bool, true, false, List, [], ◌∷◌, length, map, slice_get, Option, Some, None, Result, Ok, Err, refl, sym, ap, ◌∙◌, subst}
 use Rattle.std.specs.Prelude.{IfErr, IfOk, IfSome, sum_by}
 use Rattle.std.specs.Option.{option_map}
 use Rattle.std.proofs.lemmas.List.{length-map}
@@ -21,14 +21,18 @@ use Rattle.wdt_sender_fsm.specs.declared.acts.SendAct.{SendAct}
 use Rattle.wdt_sender_fsm.specs.declared.acts.SendAct.TheVariants as acts
 use Rattle.wdt_sender_fsm.specs.declared.inputs.SendIn.{SendIn}
 use Rattle.wdt_sender_fsm.specs.declared.inputs.SendIn.TheVariants as inputs
+use Rattle.wdt_sender_fsm.specs.declared.answers.EndAnswer.{EndAnswer}
+use Rattle.wdt_sender_fsm.specs.Causes.{Follows, IsCause, Refuses}
+use Rattle.wdt_sender_fsm.specs.Chunks.{refusal}
 use Rattle.wdt_sender_fsm.specs.PlainSender.{PlainSender}
+use Rattle.wdt_sender_fsm.specs.Rules.{is_failure}
 use Rattle.wdt_sender_fsm.specs.Sender.{FitsIn}
 use Rattle.wdt_sender_fsm.specs.Touches.{Plans, AsBefore, Anew, Touches}
 use Rattle.wdt_sender_fsm.specs.Turn.{Step, send_turn}
 use Rattle.wdt_sender_fsm.specs.Writes.{FitsAct, IsLawful, IsOwnFrame, IsPartOf}
 use Rattle.wdt_link.specs.Saying.{IsFrameOf}
 use Rattle.wdt_lanes.specs.Acts.{IsActSaid, IsInSaid}
-use Rattle.wdt_lanes.specs.Kept.{IsKept, Lists}
+use Rattle.wdt_lanes.specs.Kept.{Begun, IsKept, Lists, RefusesRun}
 
 -- what is said of a run lies in the grammar's ranges
 pub fits_in : (run : Option ToldRun) (put : SendIn) → IsInSaid run put → FitsIn put
@@ -87,16 +91,39 @@ listed_behind run s t put (AsBefore have planned) i h = let P : Option (List Hav
 listed_behind run s t put (Anew have is none now planned) i h =
     let P : Option (List HaveFile) → Type 0 = λ o. IfSome o (λ have. have ≡ run.have) in subst P (sym now) (read_is run put have is i)
 
--- a step leaves it of the run
-pub kept_behind : (run : Option ToldRun) (s t : PlainSender) (l : Lane) (put : SendIn) → Touches s l put t → IsLawful t → IsInSaid run put → IsKept run s → IsKept run t
-kept_behind None s t l put touches w i k = record { lawful = w; tree = tt; listed = tt }
-kept_behind (Some run) s t l put touches w i k = record { lawful = w; tree = (k.tree.0, touches.manifest ∙ k.tree.1); listed = listed_behind run s t put touches.plan i k.listed }
+-- it is refused as the run's have is
+refused_behind : (run : ToldRun) (s t : PlainSender) (l : Lane) (put : SendIn) → Touches s l put t → Follows s l put t → IsInSaid (Some run) put → RefusesRun (Some run) s → RefusesRun (Some run) t
+refused_behind run s t l put touches follows i had kind e = go (is_failure s.answer) refl where
+  same : refusal t.manifest run.have t.block ≡ refusal s.manifest run.have s.block
+  same = ap (λ (entries : List Entry). refusal entries run.have t.block) touches.manifest ∙ ap (λ (most : ℕ). refusal s.manifest run.have most) touches.block
+
+  go : (failed : Bool) → is_failure s.answer ≡ failed → refusal t.manifest run.have t.block ≡ Some kind
+  go true f = same ∙ had kind (sym (follows.stays f) ∙ e)
+  go false f =
+      let cause : Refuses s l.0 put kind = subst (λ (a : EndAnswer). IsCause s l put t.history a) e (follows.caused f) in
+      same ∙ ap (λ (have : List HaveFile). refusal s.manifest have s.block) (sym (read_is run put cause.have cause.read i)) ∙ cause.refused
+
+-- a step leaves it of the run, and of what it was opened with
+pub kept_behind : (run : Option ToldRun) (begun : Begun) (s t : PlainSender) (l : Lane) (put : SendIn) → Touches s l put t → Follows s l put t → IsLawful t → IsInSaid run put → IsKept run begun s → IsKept run begun t
+kept_behind None begun s t l put touches follows w i k = record { lawful = w; tree = tt; listed = tt; manifest = touches.manifest ∙ k.manifest; block = touches.block ∙ k.block; refused = tt }
+kept_behind (Some run) begun s t l put touches follows w i k = record {
+  lawful = w;
+  tree = (k.tree.0, touches.manifest ∙ k.tree.1);
+  listed = listed_behind run s t put touches.plan i k.listed;
+  manifest = touches.manifest ∙ k.manifest;
+  block = touches.block ∙ k.block;
+  refused = refused_behind run s t l put touches follows i k.refused;
+}
 
 -- the same of a call's result
-pub kept_by : (run : Option ToldRun) (result : Result SendAct SendIn) (s t : PlainSender) (l : Lane) (put : SendIn) → IfOk result (λ act. send_turn s l put ≡ (act, t)) → IfErr result (λ back. (back ≡ put) × (t ≡ s)) → Touches s l put (send_turn s l put).1 → IsLawful t → IsInSaid run put → IsKept run s → IsKept run t
-kept_by run (Ok act) s t l put ok err touches w i k =
-    let P : PlainSender → Type 0 = λ x. Touches s l put x in kept_behind run s t l put (subst P (ap (λ (step : Step). step.1) ok) touches) w i k
-kept_by run (Err back) s t l put ok err touches w i k = let P : PlainSender → Type 0 = λ x. IsKept run x in subst P (sym err.1) k
+pub kept_by : (run : Option ToldRun) (begun : Begun) (result : Result SendAct SendIn) (s t : PlainSender) (l : Lane) (put : SendIn) → IfOk result (λ act. send_turn s l put ≡ (act, t)) → IfErr result (λ back. (back ≡ put) × (t ≡ s)) → Touches s l put (send_turn s l put).1
+    → Follows s l put (send_turn s l put).1 → IsLawful t → IsInSaid run put → IsKept run begun s → IsKept run begun t
+kept_by run begun (Ok act) s t l put ok err touches follows w i k =
+    let behind : (send_turn s l put).1 ≡ t = ap (λ (step : Step). step.1) ok in
+    let P : PlainSender → Type 0 = λ x. Touches s l put x in
+    let Q : PlainSender → Type 0 = λ x. Follows s l put x in
+    kept_behind run begun s t l put (subst P behind touches) (subst Q behind follows) w i k
+kept_by run begun (Err back) s t l put ok err touches follows w i k = let P : PlainSender → Type 0 = λ x. IsKept run begun x in subst P (sym err.1) k
 
 -- ---- a call's result
 

@@ -7,7 +7,7 @@ ghost use Rattle.wdt_lanes.specs.LaneLists.{EachLane, IsAmong};
 ghost use Rattle.wdt_lanes.specs.Seats.{IsBack, MayRun, Ran, RoseAtRest, SameSource};
 
 use crate::job::{Job, run_all};
-use crate::kept_yard::KeptYard;
+use crate::kept_yard::{Begin, KeptYard};
 use crate::lane::run_lane;
 use crate::seats::{Seat, flagged, seat_all, unseat_all};
 use std::alloc::Global;
@@ -38,15 +38,17 @@ pub struct SendEnd<H, P, S, C> {
 
 // Running a sender's lane at a hub.
 #[derive(Drop)]
-struct SendJob<N: Run, S: Source, C: Dial<N>, H: Hub<KeptYard<N>>> {
+struct SendJob<N: Run, B: Begin, S: Source, C: Dial<N>, H: Hub<KeptYard<N, B>>> {
     alloc: Global,
     hub: H,
     of: PhantomData<N>,
+    begun: PhantomData<B>,
     from: PhantomData<S>,
     by: PhantomData<C>,
 }
 
-impl<N: Run, S: Source, C: Dial<N>, H: Hub<KeptYard<N>>> Job for SendJob<N, S, C, H> {
+impl<N: Run, B: Begin, S: Source, C: Dial<N>, H: Hub<KeptYard<N, B>>> Job
+    for SendJob<N, B, S, C, H> {
     type Seat = Seat<H::Pass, S, C>;
 
     ghost may = { λ job seat. MayRun H.has S.told C.out N.told job.hub seat };
@@ -54,7 +56,7 @@ impl<N: Run, S: Source, C: Dial<N>, H: Hub<KeptYard<N>>> Job for SendJob<N, S, C
     ghost did = { λ job old new. Ran H.has H.lane S.told S.faults S.slips C.faults C.alarms C.out C.mark N.told job.hub old new };
 
     fn run<R: Wait>(&self, rt: &R, seat: &mut Seat<H::Pass, S, C>) {
-        run_lane::<R, N, S, C, H>(rt, self.alloc, &self.hub, seat)
+        run_lane::<R, N, B, S, C, H>(rt, self.alloc, &self.hub, seat)
     }
 }
 
@@ -62,9 +64,10 @@ impl<N: Run, S: Source, C: Dial<N>, H: Hub<KeptYard<N>>> Job for SendJob<N, S, C
 fn run_lanes<
     R: Threads + Wait + Sync,
     N: Run + Sync,
+    B: Begin + Sync,
     S: Source + Send + Sync,
     C: Dial<N> + Send + Sync,
-    H: Hub<KeptYard<N>> + Sync,
+    H: Hub<KeptYard<N, B>> + Sync,
 >(rt: &R, alloc: Global, hub: H, seats: &mut [Seat<H::Pass, S, C>]) -> H
 where
     H::Pass: Send,
@@ -73,14 +76,15 @@ where
     ensures hub { result ≡ hub }
     ensures ran { EachLane (λ lane old new. Ran H.has H.lane S.told S.faults S.slips C.faults C.alarms C.out C.mark N.told hub old new) seats.old seats.new }
 {
-    let job: SendJob<N, S, C, H> = SendJob {
+    let job: SendJob<N, B, S, C, H> = SendJob {
         alloc,
         hub,
         of: PhantomData,
+        begun: PhantomData,
         from: PhantomData,
         by: PhantomData,
     };
-    run_all::<R, SendJob<N, S, C, H>>(rt, &job, seats);
+    run_all::<R, SendJob<N, B, S, C, H>>(rt, &job, seats);
     let SendJob { hub, .. } = job;
     hub
 }
@@ -105,9 +109,10 @@ fn retire_all<N: Run, C: Dial<N>>(dialers: &mut [C])
 pub fn send_end<
     R: Threads + Wait + Sync,
     N: Run + Sync,
+    B: Begin + Sync,
     S: Source + Send + Sync,
     C: Dial<N> + Send + Sync,
-    H: Hub<KeptYard<N>> + Sync,
+    H: Hub<KeptYard<N, B>> + Sync,
 >(
     rt: &R,
     alloc: Global,
@@ -153,7 +158,7 @@ where
         };
     }
     seat_all(&mut passes, &mut sources, &mut dialers, &mut seats);
-    let hub = run_lanes::<R, N, S, C, H>(rt, alloc, hub, seats.as_mut_slice());
+    let hub = run_lanes::<R, N, B, S, C, H>(rt, alloc, hub, seats.as_mut_slice());
     let flags = flagged(seats.as_slice());
     unseat_all(&mut seats, &mut passes, &mut sources, &mut dialers);
     seats.destroy_empty();

@@ -1,5 +1,5 @@
 //! A sender's end that is of its run.
-ghost use Rattle.std.specs.Prelude.{◌≡◌, ◌≢◌, ℕ, ◌+◌, ◌≤◌, ◌^◌, ◌-◌, List, ◌++◌, length, Some, IfErr, IfOk};
+ghost use Rattle.std.specs.Prelude.{◌≡◌, ◌≢◌, ℕ, ◌+◌, ◌≤◌, ◌^◌, ◌-◌, List, [], ◌++◌, length, Some, IfErr, IfOk};
 ghost use Rattle.wdt_units.specs.Lanes.{AllOf, Below, few_loose};
 ghost use Rattle.wdt_sender_fsm.specs.PlainSender.{lane_at};
 ghost use Rattle.wdt_sender_fsm.specs.SenderHistory.{lane_of};
@@ -10,26 +10,41 @@ ghost use Rattle.wdt_sender_fsm.specs.declared.events.SendEvent.{SendEvent as Pl
 ghost use Rattle.wdt_tree.specs.declared.entry.Entry.{Entry};
 ghost use Rattle.wdt_yard.specs.Turns.{IsLegalOfSome, IsTurn, count_of};
 ghost use Rattle.wdt_lanes.specs.Acts.{IsActSaid, IsInSaid};
-ghost use Rattle.wdt_lanes.specs.Kept.{IsKept, Lists};
+ghost use Rattle.wdt_lanes.specs.Kept.{Begun, IsKept, Lists};
 
 use crate::said_acts::{SaidIn, SaidSend};
-use std::marker::{Model, PhantomData};
+use std::marker::{Brand, Model, PhantomData};
 use wdt_codec::Frame;
-use wdt_sender_fsm::{SendAct, SendEvent, SendIn, SendLane, steps_touch_their_lane};
+use wdt_sender_fsm::{
+    SendAct, SendEvent, SendIn, SendLane, steps_answer_rightly, steps_touch_their_lane,
+};
 use wdt_tree::Run;
 use wdt_units::{Header, Lane, Machine, Name};
 use wdt_yard::Yard;
 
-/// A yard. Its type says that it is within the limits, that its manifest lists the run's tree, and that
-/// what it read of the destination is the run's have, where the run is told. Contracts see it as the
-/// plain sender.
-#[derive(Drop)]
-pub struct KeptYard<N: Run> {
-    yard: Yard,
-    of: PhantomData<N>,
+/// What an end was opened with. Contracts see it, and no code computes it. A type parameter `B: Begin`
+/// lets an end say which tree it sends, and in blocks of what size.
+pub trait Begin {
+    ghost begun: { Begun };
 }
 
-impl<N: Run> Model for KeptYard<N> {
+/// A beginning that is picked where it is known: code that is generic over `B: Begin` is called with `Brand`.
+impl Begin for Brand {
+    ghost begun = { record { manifest = []; block = 1 } };
+}
+
+/// A yard. Its type says that it is within the limits and of the manifest and the greatest length of a block
+/// that it was opened with; and where the run is told, that its manifest lists the run's tree, that what it
+/// read of the destination is the run's have, and that it refuses the tree only for what that have is
+/// refused for. Contracts see it as the plain sender.
+#[derive(Drop)]
+pub struct KeptYard<N: Run, B: Begin> {
+    yard: Yard,
+    of: PhantomData<N>,
+    begun: PhantomData<B>,
+}
+
+impl<N: Run, B: Begin> Model for KeptYard<N, B> {
     ghost use Rattle.wdt_sender_fsm.specs.PlainSender.{PlainSender};
     ghost use Rattle.wdt_lanes.specs.Kept.{IsKept};
 
@@ -37,25 +52,26 @@ impl<N: Run> Model for KeptYard<N> {
 
     ghost view = { λ s. s.yard };
 
-    ghost invariant = { λ s. IsKept N.told s.yard };
+    ghost invariant = { λ s. IsKept N.told B.begun s.yard };
 }
 
-impl<N: Run> KeptYard<N> {
-    /// A yard that is of the run.
-    pub fn of(yard: Yard) -> KeptYard<N>
-        requires { IsKept N.told yard }
+impl<N: Run, B: Begin> KeptYard<N, B> {
+    /// A yard that is of the run, and was opened so.
+    pub fn of(yard: Yard) -> KeptYard<N, B>
+        requires { IsKept N.told B.begun yard }
         ensures { result ≡ yard }
     {
         KeptYard {
             yard,
             of: PhantomData,
+            begun: PhantomData,
         }
     }
 
     /// The yard, taken out.
     pub fn into_yard(self) -> Yard
         ensures value { result ≡ self }
-        ensures kept { IsKept N.told result }
+        ensures kept { IsKept N.told B.begun result }
     {
         self.yard
     }
@@ -117,7 +133,7 @@ fn said<N: Run>(answer: Result<SendAct, SendIn>) -> Result<SaidSend<N>, SaidIn<N
     }
 }
 
-impl<N: Run> Machine for KeptYard<N> {
+impl<N: Run, B: Begin> Machine for KeptYard<N, B> {
     type Put = SaidIn<N>;
 
     type Act = SaidSend<N>;
@@ -155,10 +171,11 @@ impl<N: Run> Machine for KeptYard<N> {
         ensures legal { IsLegalOfSome self.new.history }
         ensures step { IfOk result (λ act. send_turn self.old lane put ≡ (act, self.new)) }
         ensures back { IfErr result (λ back. (back ≡ put) × (self.new ≡ self.old)) }
-        ensures kept { IsKept N.told self.new }
+        ensures kept { IsKept N.told B.begun self.new }
     {
-        // The law: what a step leaves as it is, and what it makes of the plan.
+        // The laws: what a step leaves as it is, what it makes of the plan, and why the end fails.
         steps_touch_their_lane();
+        steps_answer_rightly();
         let answer = self.yard.turn(lane, put.into_put());
         said(answer)
     }

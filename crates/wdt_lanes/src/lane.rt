@@ -5,7 +5,7 @@ ghost use Rattle.wdt_lanes.specs.Acts.{is_alarming, is_cut, is_source_lost};
 ghost use Rattle.wdt_lanes.specs.Held.{Flagged, IsHeld, RoseFor};
 ghost use Rattle.wdt_lanes.specs.Seats.{IsBack, RoseAtRest, SamePass, SameSource};
 
-use crate::kept_yard::KeptYard;
+use crate::kept_yard::{Begin, KeptYard};
 use crate::performing::{hang_up, perform_send};
 use crate::said_acts::SaidIn;
 use crate::seats::Seat;
@@ -41,7 +41,7 @@ fn is_alarming(put: &SendIn) -> bool
 
 // One turn, and the act that it gives, performed. A refused turn is followed by one that says so. None:
 // the lane is to stop.
-fn step<N: Run, S: Source, C: Dial<N>, H: Hub<KeptYard<N>>>(
+fn step<N: Run, B: Begin, S: Source, C: Dial<N>, H: Hub<KeptYard<N, B>>>(
     alloc: Global,
     hub: &H,
     seat: &mut Seat<H::Pass, S, C>,
@@ -76,7 +76,7 @@ fn step<N: Run, S: Source, C: Dial<N>, H: Hub<KeptYard<N>>>(
 
 /// Runs a lane until its end tells it to stop. It then holds no connection, and its dialer knows that it
 /// makes no further call, without which the other end would wait for it.
-pub(crate) fn run_lane<R: Wait, N: Run, S: Source, C: Dial<N>, H: Hub<KeptYard<N>>>(
+pub(crate) fn run_lane<R: Wait, N: Run, B: Begin, S: Source, C: Dial<N>, H: Hub<KeptYard<N, B>>>(
     rt: &R,
     alloc: Global,
     hub: &H,
@@ -99,7 +99,7 @@ pub(crate) fn run_lane<R: Wait, N: Run, S: Source, C: Dial<N>, H: Hub<KeptYard<N
     let mut piece: Vec<u8> = Vec::new(alloc);
     let mut put: SaidIn<N> = SaidIn::of(SendIn::Start);
     for _ in rt.forever() {
-        match step::<N, S, C, H>(alloc, hub, seat, &mut link, &mut piece, put) {
+        match step::<N, B, S, C, H>(alloc, hub, seat, &mut link, &mut piece, put) {
             Some(next) => put = next,
             None => break,
         }

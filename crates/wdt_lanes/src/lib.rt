@@ -26,7 +26,7 @@ mod seats;
 
 pub use all_lanes::{SendEnd, send_end};
 pub use job::{Job, run_all};
-pub use kept_yard::KeptYard;
+pub use kept_yard::{Begin, KeptYard};
 pub use lane_sets::with_flag;
 pub use performing::perform_send;
 pub use said_acts::{SaidIn, SaidSend};

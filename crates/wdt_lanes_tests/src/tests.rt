@@ -9,7 +9,7 @@ use std::sync::ledger::{Blank, Ledger};
 use std::test::Fail;
 use std::thread::Threads;
 use wdt_gate::MutexHub;
-use wdt_lanes::{KeptYard, SendEnd, send_end};
+use wdt_lanes::{Begin, KeptYard, SendEnd, send_end};
 use wdt_link::{MemDial, MemWire};
 use wdt_sender_fsm::EndAnswer;
 use wdt_source::{MemSource, Source};
@@ -44,12 +44,16 @@ fn source(alloc: Global, fails: &[u32]) -> Result<MemSource, Fail> {
     Ok(MemSource::of(vec![in alloc; file]?, fails))
 }
 
-// The end that sends the file.
-fn yard(alloc: Global, source: &mut MemSource) -> Result<KeptYard<Untold>, Fail>
+fn listed(alloc: Global, source: &mut MemSource) -> Result<Manifest, Fail> {
+    Ok(Manifest::check(alloc, source.list(alloc)?)?)
+}
+
+// An end of one lane, which sends these files in blocks of at most four bytes.
+fn yard<B: Begin>(alloc: Global, manifest: Manifest) -> Result<KeptYard<Untold, B>, Fail>
+    requires { B.begun ≡ record { manifest = manifest; block = 4 } }
     ensures lanes { IfOk result (λ yard. length yard.lanes ≡ 1) }
     ensures empty { IfOk result (λ yard. yard.history ≡ []) }
 {
-    let manifest = Manifest::check(alloc, source.list(alloc)?)?;
     Ok(KeptYard::of(Yard::open(alloc, manifest, 1, 4, 1)?))
 }
 
@@ -63,25 +67,26 @@ fn outcome_of(yard: &Yard) -> Fared {
     }
 }
 
-// Sends the file over one connection, on which the other end says this, and answers how the end fared and
+// Sends the files over one connection, on which the other end says this, and answers how the end fared and
 // which of its lanes lost their source, their connection, and heard the other end fail.
-fn send<R: Threads + Wait + Sync + Copy + Drop, L: Ledger + Send + Sync>(
+fn send<R: Threads + Wait + Sync + Copy + Drop, L: Ledger + Send + Sync, B: Begin + Send + Sync>(
     rt: R,
     alloc: Global,
     blank: Blank,
+    manifest: Manifest,
+    source: MemSource,
     said: &[u8],
-    fails: &[u32],
 ) -> Result<(Fared, [LaneSet; 3]), Fail>
     requires name { blank.name ≡ L.name }
     requires parts { (blank.parts ≡ L.parts) × (blank.parts ≡ 1) }
+    requires begun { B.begun ≡ record { manifest = manifest; block = 4 } }
 {
-    let mut source = source(alloc, fails)?;
-    let yard = yard(alloc, &mut source)?;
+    let yard = yard::<B>(alloc, manifest)?;
     let wire = MemWire::of(alloc, Vec::from_slice(alloc, said)?, Vec::new(alloc));
     let dialer = MemDial::of(alloc, vec![in alloc; wire]?);
     let sources = vec![in alloc; source]?;
     let dialers = vec![in alloc; dialer]?;
-    let Ok((hub, passes)) = MutexHub::<R, KeptYard<Untold>, L>::open(rt, alloc, blank, yard, 1)
+    let Ok((hub, passes)) = MutexHub::<R, KeptYard<Untold, B>, L>::open(rt, alloc, blank, yard, 1)
     else {
         return Err(Fail::from("no memory"));
     };
@@ -92,7 +97,7 @@ fn send<R: Threads + Wait + Sync + Copy + Drop, L: Ledger + Send + Sync>(
         cut,
         alarmed,
         ..
-    } = send_end::<R, Untold, MemSource, MemDial, MutexHub<R, KeptYard<Untold>, L>>(
+    } = send_end::<R, Untold, B, MemSource, MemDial, MutexHub<R, KeptYard<Untold, B>, L>>(
         &rt, alloc, hub, passes, sources, dialers,
     );
     let (yard, _turns) = hub.settle(passes);
@@ -109,7 +114,16 @@ fn a_lane_comes_to_its_end(rt: HostRuntime) -> Result<(), Fail> {
         (b"A\x02".as_slice(), &[9], Fared::Aborted, [none, none, one]),
     ] {
         let blank = Blank::new(1);
-        let ended = send::<HostRuntime, Brand>(rt, rt.alloc(), blank, said, fails)?;
+        let mut source = source(rt.alloc(), fails)?;
+        let manifest = listed(rt.alloc(), &mut source)?;
+        let ended = send::<HostRuntime, Brand, Brand>(
+            rt,
+            rt.alloc(),
+            blank,
+            manifest,
+            source,
+            said,
+        )?;
         assert_eq!(rt; ended, (how, met), "{said:?}");
     }
     Ok(())

@@ -20,6 +20,8 @@ use Rattle.wdt_depot.specs.State.{Counts, State}
 use Rattle.wdt_logfmt.specs.Beginning.{KnownFile, number_from}
 use Rattle.wdt_logfmt.specs.View.{NamedFile}
 use Rattle.wdt_good.specs.Good.{Each}
+use Rattle.wdt_good.specs.Logged.{GoodSince}
+use Rattle.wdt_good.proofs.ForCallers.{join_good}
 use Rattle.wdt_sender_fsm.specs.declared.answers.EndAnswer.{EndAnswer}
 use Rattle.wdt_sender_fsm.specs.declared.answers.EndAnswer.TheVariants as answers
 use Rattle.wdt_sender_fsm.specs.Rules.{is_failure}
@@ -42,7 +44,7 @@ use Rattle.wdt_dock.specs.DockView.{HasLostDisk, LosesDisk}
 use Rattle.wdt_dock.specs.Sparing.{Between, IsOther, IsUnasked, LeavesOthers}
 use Rattle.wdt_recv_lanes.specs.declared.heard.Heard.{Heard}
 use Rattle.wdt_recv_lanes.specs.Acts.{IsActSaid}
-use Rattle.wdt_recv_lanes.specs.Kept.{GoodFor, HadOf, HasTotals, IsBeside, IsKept, NoSlips, OthersRead, Started}
+use Rattle.wdt_recv_lanes.specs.Kept.{GoodFor, HadOf, HasTotals, ImagesGood, IsBeside, IsKept, NoSlips, OthersRead, Started, files_of}
 use Rattle.wdt_recv_lanes.specs.Turns.{CameTo, IsLegalOfSome, IsPutSaid, IsTurn, Leaves, Turned, count_of, put_of}
 use Rattle.wdt_recv_lanes.proofs.Totals.{AreRead, turn_reads}
 
@@ -102,6 +104,11 @@ slips_on P (Some t) (Some u) n m k since e f = e ∙ f
 no_slips : (run : Option ToldRun) (start : ℕ) (r t : PlainReceiver) (put : Put) (s0 s1 : State) → Leaves run r put t s0 s1 → GoodFor run r s0 → NoSlips run start s0 → NoSlips run start s1
 no_slips None start r t put s0 s1 leaves good none = tt
 no_slips (Some told) start r t put s0 s1 leaves good none = slips_on _ s0.told s1.told s0.slips s1.slips start (leaves.since good) (leaves.slips good) none
+
+-- images that are good since the depot was handed in, and then in a turn
+images_on : (run : Option ToldRun) (before : Option Told) (s0 s1 : State) → ImagesGood run before s0 → IfSome run (λ told. GoodSince told.tree [] s0.told s1.told) → ImagesGood run before s1
+images_on None before s0 s1 since on = tt
+images_on (Some told) before s0 s1 since on = join_good told.tree [] [] before s0.told s1.told since on
 
 -- ---- other files
 
@@ -205,7 +212,8 @@ kept_turn run start r t l put result s0 s1 turned kept =
       had = said.had;
       sized = said.sized;
       good = turned.leaves.good kept.good;
-      others = others_behind run start.files r t put s0 s1 turned.said turned.leaves kept.good kept.others;
+      images = images_on run start.told s0 s1 kept.images (turned.leaves.since kept.good);
+      others = others_behind run (files_of start) r t put s0 s1 turned.said turned.leaves kept.good kept.others;
       slips = no_slips run start.slips r t put s0 s1 turned.leaves kept.good kept.slips;
       later = omega (arith, kept.later, turned.leaves.counts.faults);
       lost = lost_by r.answer t.answer start.faults s0 s1 turned.leaves.counts kept.lost kept.later;

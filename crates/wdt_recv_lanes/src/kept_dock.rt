@@ -29,13 +29,14 @@ pub trait Start {
 
 /// A start that is picked where it is known: code that is generic over `J: Start` is called with `Brand`.
 impl Start for Brand {
-    ghost started = { record { faults = 0; slips = 0; files = None } };
+    ghost started = { record { faults = 0; slips = 0; told = None } };
 }
 
 /// A dock. Its type says, where the run and the depot are told: what the destination had is the run's have,
 /// the totals that were read and all that it covers are the tree's, and every image of its depot is good
-/// for the tree; and since the depot was handed in no slip came, and each file but the tree's and the log
-/// reads as it did. Told or not, no fault of the depot was taken back, and the disk was lost only where one
+/// for the tree; and since the depot was handed in every image of each moment, inside each write too, is good
+/// for the tree and for what was logged then, no slip came, and each file but the tree's and the log reads as
+/// it did. Told or not, no fault of the depot was taken back, and the disk was lost only where one
 /// was counted. Contracts see it as the dock.
 #[derive(Drop)]
 pub struct KeptDock<N: Run, D: Depot + Drop, J: Start> {

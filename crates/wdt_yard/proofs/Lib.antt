@@ -9,6 +9,7 @@ pub mod Marks
 pub mod Plans
 pub mod Queues
 pub mod Readings
+pub mod Refusals
 pub mod Results
 pub mod Starts
 pub mod Steps

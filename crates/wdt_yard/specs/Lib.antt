@@ -4,5 +4,6 @@ pub mod Inside
 pub mod Kept
 pub mod Kinds
 pub mod Ledger
+pub mod Refused
 pub mod Tallies
 pub mod Turns

@@ -15,7 +15,7 @@ use wdt_history::Place;
 use wdt_ranges::Have;
 use wdt_sender_fsm::{EndAnswer, PeerKind, SendEvent, SendLane, SendState};
 use wdt_tree::Manifest;
-use wdt_units::{Block, Lane, MAX_BLOCK, NoMemory};
+use wdt_units::{Block, Lane, MAX_BLOCK, MAX_FILES, NoMemory};
 
 /// A sender's end. It is seen as the plain sender, and the room that was made.
 #[derive(Debug, Drop)]
@@ -106,6 +106,14 @@ impl SendEnd {
         ensures { result ≡ is_failure self.now.plain.answer }
     {
         self.answer.is_failure()
+    }
+
+    /// How many files it sends, at most `MAX_FILES`.
+    pub fn files(&self) -> u32
+        ensures value { result ≡ length self.now.plain.manifest }
+        ensures limit { result ≤ MAX_FILES }
+    {
+        self.manifest.count()
     }
 
     /// All that happened, in order.

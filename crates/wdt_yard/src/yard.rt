@@ -1,10 +1,11 @@
 //! The yard: a sender's end as its lanes share it.
-ghost use Rattle.std.specs.Prelude.{◌≡◌, ◌↔◌, ◌<◌, ◌≤◌, ℕ, length, replicate, option_map, is_some, true, false, OnErr, IfOk, IfErr};
+ghost use Rattle.std.specs.Prelude.{◌≡◌, ◌≢◌, ◌↔◌, ◌<◌, ◌≤◌, ℕ, length, replicate, option_map, is_some, true, false, OnErr, IfOk, IfErr};
 ghost use Rattle.std.specs.List.{Contains};
 ghost use Rattle.wdt_units.specs.declared.blocks.Block.{Block as PlainBlock};
 ghost use Rattle.wdt_units.specs.declared.numbers.Lane.{Lane as PlainLane};
 ghost use Rattle.wdt_claims.specs.declared.place.Place.TheVariants.{Confirmed};
 ghost use Rattle.wdt_sender_fsm.specs.declared.answers.EndAnswer.TheVariants as answers;
+ghost use Rattle.wdt_sender_fsm.specs.declared.answers.RefusedKind.{RefusedKind};
 ghost use Rattle.wdt_sender_fsm.specs.declared.peers.PeerKind.{PeerKind};
 ghost use Rattle.wdt_sender_fsm.specs.Causes.{Follows, HasNoLane, RefusesRightly, has_all_done};
 ghost use Rattle.wdt_sender_fsm.specs.PlainSender.{HasPlaces, block_place, new_lane, opened, state_at};
@@ -15,6 +16,7 @@ ghost use Rattle.wdt_sender_fsm.specs.SenderHistory.{end_of};
 ghost use Rattle.wdt_sender_fsm.specs.Stops.{is_stop, is_through, stops};
 ghost use Rattle.wdt_sender_fsm.specs.Turn.{send_turn};
 ghost use Rattle.wdt_sender_fsm.specs.Writes.{FitsAct, IsLawful};
+ghost use Rattle.wdt_yard.specs.Refused.{WasRefused};
 ghost use Rattle.wdt_yard.specs.Turns.{takes_no_memory};
 
 use crate::end::SendEnd;
@@ -26,7 +28,7 @@ use wdt_sender_fsm::{
     blocks_keep_their_places, senders_stay_senders, steps_answer_rightly, steps_touch_their_lane,
 };
 use wdt_tree::Manifest;
-use wdt_units::{Block, Lane, MAX_BLOCK, NoMemory};
+use wdt_units::{Block, Lane, MAX_BLOCK, MAX_FILES, NoMemory};
 
 /// A sender's end as its lanes share it. It is seen as the plain sender.
 #[derive(Debug, Drop)]
@@ -107,6 +109,14 @@ impl Yard {
         }
     }
 
+    /// How many files it sends, 0 to 262,144.
+    pub fn files(&self) -> u32
+        ensures value { result ≡ length self.now.manifest }
+        ensures limit { result ≤ MAX_FILES }
+    {
+        self.end.files()
+    }
+
     /// All that happened, in order. It is the history of a sender within the limits.
     pub fn history(&self) -> &[SendEvent]
         ensures value { result.now ≡ self.now.history }
@@ -117,13 +127,17 @@ impl Yard {
     }
 
     /// How the end fares. The history and the lanes say exactly when it is done or has no lane left,
-    /// and when the receiver failed it; every other failure has its cause in the step that it came of.
+    /// and when the receiver failed it. Where it refuses the tree, a lane read what the tree isn't sent
+    /// to, for that very reason, and nothing was planned; and no disk fails it. Every other failure has its
+    /// cause in the step that it came of.
     pub fn answer(&self) -> &EndAnswer
         ensures value { result.now ≡ self.now.answer }
         ensures done { (self.now.answer ≡ answers.Done) ↔ (has_all_done self.now ≡ true) }
         ensures link { (self.now.answer ≡ answers.Link) ↔ HasNoLane self.now }
         ensures peer { (kind : PeerKind) → (self.now.answer ≡ answers.Peer kind) ↔ ((l : PlainLane) × Contains self.now.history (SendEvent.Peer l kind)) }
         ensures aborted { (code : ℕ) → (self.now.answer ≡ answers.Aborted code) ↔ ((l : PlainLane) × Contains self.now.history (SendEvent.Abort l code)) }
+        ensures refused { (kind : RefusedKind) → self.now.answer ≡ answers.Refused kind → WasRefused self.now kind }
+        ensures diskless { self.now.answer ≢ answers.Disk }
     {
         // The law: why an end has its answer.
         answers_have_their_causes();
@@ -153,12 +167,22 @@ impl Yard {
         self.end.planned()
     }
 
-    /// The history and the answer, which are a sender's.
+    /// The history and the answer, which are a sender's within the limits. Why it has that answer is
+    /// said as `answer` says it.
     pub fn close(self) -> (Vec<SendEvent>, EndAnswer)
         ensures lawful { IsSender self }
+        ensures limits { IsLawful self }
         ensures history { result.0.items ≡ self.history }
         ensures answer { result.1 ≡ self.answer }
+        ensures done { (self.answer ≡ answers.Done) ↔ (has_all_done self ≡ true) }
+        ensures link { (self.answer ≡ answers.Link) ↔ HasNoLane self }
+        ensures peer { (kind : PeerKind) → (self.answer ≡ answers.Peer kind) ↔ ((l : PlainLane) × Contains self.history (SendEvent.Peer l kind)) }
+        ensures aborted { (code : ℕ) → (self.answer ≡ answers.Aborted code) ↔ ((l : PlainLane) × Contains self.history (SendEvent.Abort l code)) }
+        ensures refused { (kind : RefusedKind) → self.answer ≡ answers.Refused kind → WasRefused self kind }
+        ensures diskless { self.answer ≢ answers.Disk }
     {
+        // The law: why an end has its answer.
+        answers_have_their_causes();
         self.end.into_parts()
     }
 }

@@ -11,6 +11,8 @@ use Rattle.wdt_sender_fsm.specs.declared.answers.EndAnswer.TheVariants as answer
 use Rattle.wdt_receiver_fsm.specs.Answered.{HasNoLane, IsHeard, has_all_done}
 use Rattle.wdt_dock.specs.Desk.{plain_of}
 use Rattle.wdt_receiver_fsm.proofs.ForCallers.{answered_done, answered_link}
+use Rattle.wdt_dock.specs.Dock.{LogRests}
+use Rattle.wdt_good.specs.LogState.{LogOf}
 use Rattle.wdt_dock.proofs.dock.Dock.close.Goals as goal
 
 pub returns-clause-logged : goal.returns-clause-logged
@@ -39,3 +41,11 @@ returns-clause-link g c =
 
 pub returns-clause-heard : goal.returns-clause-heard
 returns-clause-heard g c = subst (λ (r : PlainReceiver). IsHeard r.answer r.history) (ap (λ v. v.plain) c.self.view_is) c.self.invariant.answered.heard
+
+pub returns-clause-rests : goal.returns-clause-rests
+returns-clause-rests g c =
+    let log = c.self.inside.log in
+    let told = (g.D.Depot.state c.self.inside.depot).told in
+    subst (λ (r : PlainReceiver). (HasLostDisk r.answer → ⊥) → LogRests r (g.D.Depot.state c.self.inside.depot))
+    (ap (λ v. v.plain) c.self.view_is)
+    (λ here. subst (λ version. IfTold (λ t. LogOf version log.meaning.files log.meaning.end t.now) told) c.self.invariant.desk.books.version (c.self.invariant.rest.rests here))

@@ -1,4 +1,4 @@
-use Rattle.std.proofs.Common.{◌≡◌, ◌+◌, ◌≤◌, List, ◌++◌, length, Result, Some}
+use Rattle.std.proofs.Common.{◌≡◌, ◌+◌, ◌<◌, ◌≤◌, List, ◌++◌, length, Result, Some, subst, sym}
 use Rattle.std.specs.Prelude.{IfErr, IfOk}
 use Rattle.wdt_units.specs.Lanes.{AllOf}
 use Rattle.wdt_sender_fsm.specs.declared.acts.SendAct.{SendAct}
@@ -8,7 +8,7 @@ use Rattle.wdt_sender_fsm.specs.PlainSender.{PlainSender, lane_at}
 use Rattle.wdt_sender_fsm.specs.SenderHistory.{lane_of}
 use Rattle.wdt_sender_fsm.specs.Turn.{send_turn}
 use Rattle.wdt_yard.specs.Turns.{IsTurn, count_of}
-use Rattle.wdt_lanes.proofs.Keeping.{back_said, kept_by, moved, owned}
+use Rattle.wdt_lanes.proofs.Keeping.{back_said, fits_in, kept_by, moved, owned}
 use Rattle.wdt_lanes.proofs.kept_yard.KeptYardMachine.turn.Goals as goal
 
 pub said-requires-clause-own : goal.said-requires-clause-own
@@ -20,7 +20,16 @@ said-requires-clause-back g c = back_said g.N.Run.told c.turn-answer.result c.in
 pub invariant_of-self : goal.invariant_of-self
 invariant_of-self g c =
     let s = c.self.inside.yard in
-    kept_by g.N.Run.told c.turn-answer.result s c.turn-answer.new.self c.args.lane c.into_put.result c.turn-answer.ensures.step c.turn-answer.ensures.back (c.steps_touch_their_lane.ensures.touches s c.args.lane c.into_put.result) c.turn-answer.ensures.limits c.into_put.ensures.said c.self.invariant
+    let lane : c.args.lane.0 < length s.lanes = subst (λ (x : PlainSender). c.args.lane.0 < length x.lanes) (sym c.self.view_is) c.requires.lane in
+    kept_by g.N.Run.told g.B.Begin.begun c.turn-answer.result s c.turn-answer.new.self c.args.lane c.into_put.result c.turn-answer.ensures.step c.turn-answer.ensures.back (c.steps_touch_their_lane.ensures.touches s c.args.lane c.into_put.result)
+    (c.steps_answer_rightly.ensures.follows s c.args.lane c.into_put.result c.turn-answer.ensures.was lane (fits_in g.N.Run.told c.into_put.result c.into_put.ensures.said)) c.turn-answer.ensures.limits c.into_put.ensures.said c.self.invariant
+
+pub returns-clause-kept : goal.returns-clause-kept
+returns-clause-kept g c =
+    let s = c.self.inside.yard in
+    let lane : c.args.lane.0 < length s.lanes = subst (λ (x : PlainSender). c.args.lane.0 < length x.lanes) (sym c.self.view_is) c.requires.lane in
+    kept_by g.N.Run.told g.B.Begin.begun c.turn-answer.result s c.turn-answer.new.self c.args.lane c.into_put.result c.turn-answer.ensures.step c.turn-answer.ensures.back (c.steps_touch_their_lane.ensures.touches s c.args.lane c.into_put.result)
+    (c.steps_answer_rightly.ensures.follows s c.args.lane c.into_put.result c.turn-answer.ensures.was lane (fits_in g.N.Run.told c.into_put.result c.into_put.ensures.said)) c.turn-answer.ensures.limits c.into_put.ensures.said c.self.invariant
 
 pub returns-clause-ok : goal.returns-clause-ok
 returns-clause-ok g c =
