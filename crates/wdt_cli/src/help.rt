@@ -4,12 +4,25 @@
 pub const VERSION: &str = "wdt 0.1.0\n";
 
 /// What `wdt --help` prints, in parts.
-pub const HELP: [&str; 5] = [HEAD, REHEARSE, PLAN, LOG, TAIL];
+pub const HELP: [&str; 6] = [HEAD, COPY, REHEARSE, PLAN, LOG, TAIL];
 
 const HEAD: &str = "\
 wdt copies a directory tree from a sender to a receiver.
 
 usage:
+";
+
+// A text that takes no memory is one constant, so the numbers stand in it: those of the limits and
+// defaults of `wdt_units`, and the lanes that `wdt_words` takes where none are given.
+const COPY: &str = "  \
+  wdt copy SRC DST [--lanes N] [--block N] [--batch N]
+                                copies the files below the folder SRC into the folder
+                                DST, over N lanes: 1 to 16, or else 4; in blocks of at
+                                most N bytes: 1 to 67108864, or else 16777216; what has
+                                landed is logged every N bytes: 1 to 1073741824, or
+                                else 8388608. A copy that was stopped goes on from its
+                                log where the same words are given again
+                                example: wdt copy photos backup
 ";
 
 const REHEARSE: &str = "  \
@@ -19,8 +32,6 @@ const REHEARSE: &str = "  \
                                 example: wdt rehearse photos
 ";
 
-// A text that takes no memory is one constant, so the numbers stand in it: MAX_BLOCK, DEFAULT_BLOCK, and
-// a block of 1 MiB as an example.
 const PLAN: &str = "  \
   wdt plan SRC DST [--block N]  lists what the folder DST still lacks of SRC by its log,
                                 in blocks of at most N bytes: 1 to 67108864, or else
@@ -44,6 +55,9 @@ exit statuses:
   1   the words are no command
   2   the source failed
   3   the destination failed
+  4   a connection failed, and no lane was left
+  5   one end said what the other can't take
+  6   one end failed, and the other heard of it
   7   refused: the tree, the log, or the one against the other
   8   standard output failed
   10  memory ran out
@@ -51,6 +65,9 @@ exit statuses:
 
 /// The usage of the command of this name alone; empty where there is no such command.
 pub fn usage_of(command: &str) -> &'static str {
+    if command == "copy" {
+        return COPY;
+    }
     if command == "rehearse" {
         return REHEARSE;
     }

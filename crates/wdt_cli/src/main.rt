@@ -1,27 +1,52 @@
 //! `wdt` copies a directory tree from a sender to a receiver.
 //!
-//! `main` makes the real objects, calls `tool`, on whose contract the promises stand, and says on
-//! standard error what went wrong. Standard output has the lines of `tool` alone, but for `--help`
-//! and `--version`.
+//! `main` makes the real objects, calls `tool` or, for a copy, `carry`, on whose contracts the promises
+//! stand, and says on standard error what went wrong. Standard output has the lines of these calls alone,
+//! but for `--help` and `--version`.
 #![tactic(auto)]
 
+mod apart;
+mod carry;
+mod copying;
 mod explaining;
+#[cfg(test)]
+mod fixtures;
+#[cfg(test)]
+mod gated;
 mod help;
+mod holding;
+mod judging;
 mod misreading;
+mod receiver_side;
+mod reporting;
+mod sender_side;
+#[cfg(test)]
+mod tests;
+mod transferring;
+mod watching;
 
 use explaining::{explain, explain_out};
 use std::alloc::{AllocError, Global};
-use std::io::{self, ErrorKind};
+use std::io::{self, ErrorKind, IsTerminal};
 use std::process::ExitCode;
 use std::rt::Env;
+use transferring::transfer;
 use wdt_depot::MemDepot;
 use wdt_folder::{FolderDepot, FolderSource};
 use wdt_tool::{Status, tool};
 use wdt_units::{Sink, ToWrite};
-use wdt_words::{Named, folders_of};
+use wdt_words::{Named, folders_of, transfer_of};
 
 fn main(rt: HostRuntime) -> ExitCode {
-    let status = match run(&rt, rt.alloc()) {
+    let alloc = rt.alloc();
+    let ended = match words_of(&rt, alloc) {
+        Ok(words) => match transfer_of(&words) {
+            Some(command) => transfer(&rt, alloc, &words, command, rt.stderr().is_terminal()),
+            None => run(&rt, alloc, &words),
+        },
+        Err(failure) => Err(failure),
+    };
+    let status = match ended {
         Ok(status) => status,
         Err(_) => {
             let _ = eprintln!(rt; "wdt: out of memory");
@@ -31,10 +56,9 @@ fn main(rt: HostRuntime) -> ExitCode {
     ExitCode::from(status.code())
 }
 
-// Runs the words of the process. What can't be written to standard error changes no status.
-fn run(rt: &HostRuntime, alloc: Global) -> Result<Status, AllocError> {
-    let words = words_of(rt, alloc)?;
-    if let [word] = words.as_slice() {
+// Runs words that wait for nobody. What can't be written to standard error changes no status.
+fn run(rt: &HostRuntime, alloc: Global, words: &[String]) -> Result<Status, AllocError> {
+    if let [word] = words {
         if word.as_str() == "--help" {
             return Ok(tell(rt, &help::HELP));
         }
@@ -42,9 +66,9 @@ fn run(rt: &HostRuntime, alloc: Global) -> Result<Status, AllocError> {
             return Ok(tell(rt, &[help::VERSION]));
         }
     }
-    match folders_of(alloc, &words) {
-        Ok(Some(named)) => run_on(rt, alloc, &words, named),
-        Ok(None) => in_memory(rt, alloc, &words, String::new(alloc)),
+    match folders_of(alloc, words) {
+        Ok(Some(named)) => run_on(rt, alloc, words, named),
+        Ok(None) => in_memory(rt, alloc, words, String::new(alloc)),
         Err(_) => Err(AllocError),
     }
 }

@@ -2,17 +2,25 @@
 use crate::help::usage_of;
 use std::io;
 use wdt_folder::OneLine;
-use wdt_words::{Expected, Misread, read_words};
+use wdt_words::{Expected, MAX_PORT, Misread, read_transfer, read_words};
 
 /// Says on standard error which word is wrong and what was expected there, and how its command is used.
 pub fn explain_words(rt: &impl Eprint, words: &[String]) -> io::Result<()> {
-    if let Err(misread) = read_words(words) {
+    if let Some(misread) = misread_in(words) {
         explain_word(rt, words, misread)?;
     }
     if let [command, ..] = words {
         eprint!(rt; "{}", usage_of(command.as_str()))?;
     }
     eprintln!(rt; "wdt --help shows all commands")
+}
+
+// What is wrong with words that are no form of their command.
+fn misread_in(words: &[String]) -> Option<Misread> {
+    match words {
+        [command, ..] if command.as_str() == "copy" => read_transfer(words).err(),
+        _ => read_words(words).err(),
+    }
 }
 
 fn explain_word(rt: &impl Eprint, words: &[String], misread: Misread) -> io::Result<()> {
@@ -28,6 +36,10 @@ fn explain_word(rt: &impl Eprint, words: &[String], misread: Misread) -> io::Res
         Expected::Source | Expected::Dest => eprintln!(rt;
             "wdt: a folder is expected, which isn't empty and doesn't begin with `-`: {word}"
         ),
+        Expected::Host => eprintln!(rt;
+            "wdt: a host is expected, which isn't empty and doesn't begin with `-`: {word}"
+        ),
+        Expected::Port => eprintln!(rt; "wdt: PORT is 1 to {MAX_PORT}: {word}"),
         Expected::Setting => eprintln!(rt; "wdt: unknown option {word}"),
         Expected::End => eprintln!(rt; "wdt: a word too many: {word}"),
         Expected::Once => eprintln!(rt; "wdt: {word} is given twice"),
@@ -43,6 +55,10 @@ fn explain_missing(rt: &impl Eprint, last: OneLine<'_>, expected: Expected) -> i
         Expected::Command => eprintln!(rt; "wdt: a command is missing"),
         Expected::Source => eprintln!(rt; "wdt: SRC is missing, the folder to copy from"),
         Expected::Dest => eprintln!(rt; "wdt: DST is missing, the folder to copy to"),
+        Expected::Host => eprintln!(rt;
+            "wdt: HOST is missing, the name or the address of a machine"
+        ),
+        Expected::Port => eprintln!(rt; "wdt: PORT is missing, 1 to {MAX_PORT}"),
         Expected::Number { least, greatest } => eprintln!(rt;
             "wdt: {last} takes {least} to {greatest}"
         ),
