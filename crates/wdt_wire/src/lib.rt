@@ -17,4 +17,3 @@ pub use laws::ways_are_of_connections;
 pub use side::Side;
 pub use taken::Taken;
 pub use wire::Wire;
-
