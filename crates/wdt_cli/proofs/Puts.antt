@@ -1,21 +1,16 @@
 -- What holds of a status holds of the status behind its lines.
-use Rattle.std.proofs.Common.{◌≡◌, ◌⊎◌, inl, inr, ℕ, List, length, Option, refl, sym, ap, ◌∙◌, subst}
+use Rattle.std.proofs.Common.{◌≡◌, ◌⊎◌, inl, inr, ℕ, List, Option, refl, sym, ap, ◌∙◌, subst}
 use Rattle.wdt_units.specs.Counts.{Rises}
 use Rattle.wdt_units.specs.Tree.{File}
-use Rattle.wdt_units.specs.declared.numbers.LaneSet.{LaneSet}
 use Rattle.wdt_tree.specs.Told.{ToldRun}
 use Rattle.wdt_depot.specs.State.{State}
 use Rattle.wdt_sender_fsm.specs.declared.events.SendEvent.{SendEvent}
 use Rattle.wdt_sender_fsm.specs.declared.peers.PeerKind.TheVariants.{BadFrame}
 use Rattle.wdt_receiver_fsm.specs.declared.events.RecvEvent.{RecvEvent}
-use Rattle.wdt_lanes.specs.Kept.{Begun}
-use Rattle.wdt_recv_lanes.specs.Kept.{Started}
 use Rattle.wdt_tool.specs.declared.status.Status.{Status}
 use Rattle.wdt_tool.specs.declared.status.Status.TheVariants.{Done, Usage, SourceFault, DiskFault, LinkFault, Peer, Aborted, Refused, OutFault, NoMemory}
-use Rattle.wdt_cli.specs.Causes.{BothEnded}
 use Rattle.wdt_cli.specs.Leaves.{LeavesDepot, LeavesHistories, LeavesLinks, LeavesSources}
 use Rattle.wdt_cli.specs.Printed.{IsPut, before_lines}
-use Rattle.wdt_cli.proofs.Ends.{EndsOr, both_ended}
 
 -- what was put behind a status that is known
 pub put_as : (status more : Status) (before after : ℕ) (s : Status) → IsPut status more before after → more ≡ s → IsPut status s before after
@@ -86,15 +81,10 @@ starved_before (Refused kind) is = is
 starved_before OutFault is = cc
 starved_before NoMemory is = is
 
--- how both ends of a copy of so many files ended, by the status behind its lines
-pub ended_put : {D : Type 0} {state : D → State} {run : Option ToldRun} {begun : Begun} {start : Started} {lost cut alarmed far_cut far_alarmed : LaneSet} {h : List SendEvent} {depot : Option D}
-    {g : List RecvEvent}
-    {status : Status} (files : ℕ) (more : Status) (before after : ℕ) → IsPut status more before after → files ≡ length begun.manifest
-    → EndsOr state run begun start lost cut alarmed far_cut far_alarmed h depot g status → (more ≡ NoMemory) ⊎ BothEnded run files h g (before_lines more)
-ended_put {state = state} {run = run} {begun = begun} {start = start} {lost = lost} {cut = cut} {alarmed = alarmed} {far_cut = far_cut} {far_alarmed = far_alarmed} {h = h} {depot = depot} {g = g}
-    {status = status} files more before after put counted ends = go (before_put status more before after put) ends where
-      go : (more ≡ NoMemory) ⊎ (status ≡ before_lines more) → EndsOr state run begun start lost cut alarmed far_cut far_alarmed h depot g status → (more ≡ NoMemory) ⊎ BothEnded run files h g
-          (before_lines more)
-      go (inl starved) ends = inl starved
-      go (inr is) (inl starved) = inl (starved_before more (sym is ∙ starved))
-      go (inr is) (inr e) = inr (subst (λ (x : Status). BothEnded run files h g x) is (both_ended e files counted))
+-- what a status comes of, by the status behind its lines
+pub ended_put : (ended : Status → Type 0) (status more : Status) (before after : ℕ) → IsPut status more before after → (status ≡ NoMemory) ⊎ ended status → (more ≡ NoMemory) ⊎ ended (before_lines more)
+ended_put ended status more before after put ends = go (before_put status more before after put) ends where
+  go : (more ≡ NoMemory) ⊎ (status ≡ before_lines more) → (status ≡ NoMemory) ⊎ ended status → (more ≡ NoMemory) ⊎ ended (before_lines more)
+  go (inl starved) ends = inl starved
+  go (inr is) (inl starved) = inl (starved_before more (sym is ∙ starved))
+  go (inr is) (inr e) = inr (subst ended is e)

@@ -25,11 +25,11 @@ use Rattle.wdt_tool.specs.Failures.{plan_kind}
 use Rattle.wdt_tool.specs.Refusals.{IsLogCause, plan_refusal}
 use Rattle.wdt_tool.specs.declared.status.Status.{Status}
 use Rattle.wdt_tool.specs.declared.status.Status.TheVariants.{Refused, NoMemory}
+use Rattle.wdt_sending.specs.Sending.{SenderTaken, begun_of}
 use Rattle.wdt_cli.specs.Causes.{IsPlanCause, IsPlanKind, IsUnsent}
-use Rattle.wdt_cli.specs.Copied.{begun_of}
-use Rattle.wdt_cli.specs.Judging.{has_some}
+use Rattle.wdt_sending.specs.Judging.{has_some}
 use Rattle.wdt_cli.proofs.Ends.{Ends, EndsOr, answer_behind}
-use Rattle.wdt_cli.proofs.Judged.{IsAnswerOf}
+use Rattle.wdt_sending.proofs.ForCallers.{IsAnswerOf}
 
 -- ---- the refusals are the same
 
@@ -80,6 +80,16 @@ of_run : (run : Option ToldRun) (manifest : List Entry) (block : ℕ) (answer : 
 of_run None manifest block answer kind by is = tt
 of_run (Some r) manifest block answer kind by is = by kind is
 
+-- a sending end that refuses its tree does so for the plan
+pub plan_cause : {run : Option ToldRun} {lost cut alarmed : LaneSet} {h : List SendEvent} {status : Status} (manifest : List Entry) (block : ℕ)
+    (t : SenderTaken run (begun_of manifest block) lost cut alarmed h status) (kind : RefusedKind) → t.sent.answer ≡ answers.Refused kind → IsPlanCause run block kind
+plan_cause {run = run} manifest block t kind near =
+    let was = t.refused kind near in
+    let at : t.sent.block ≡ block = t.kept.block in (
+      plan_kind_of t.sent.manifest was.have t.sent.block kind was.refused,
+      subst (λ (b : ℕ). IsUnsent run b kind) at (unsent run t.sent.manifest t.sent.block kind t.kept.tree (of_run run t.sent.manifest t.sent.block t.sent.answer kind t.kept.refused near)),
+    )
+
 -- ---- both ends
 
 pub refused_left : {D : Type 0} {state : D → State} {run : Option ToldRun} (manifest : List Entry) (block : ℕ) {start : Started} {lost cut alarmed far_cut far_alarmed : LaneSet}
@@ -90,11 +100,5 @@ refused_left manifest block (inl starved) kind is = absurd (cc)
 refused_left {run = run} manifest block {lost = lost} {cut = cut} {alarmed = alarmed} {far_cut = far_cut} {far_alarmed = far_alarmed} (inr e) kind is = go (answer_behind e (Refused kind) is) where
   go : IsAnswerOf (has_some lost) (has_some cut) (has_some alarmed) e.sent.sent.answer (Refused kind) ⊎ IsAnswerOf false (has_some far_cut) (has_some far_alarmed) e.received.received.answer
       (Refused kind) → IsPlanCause run block kind
-  go (inl near) =
-      let was = e.sent.refused kind near in
-      let at : e.sent.sent.block ≡ block = e.sent.kept.block in (
-        plan_kind_of e.sent.sent.manifest was.have e.sent.sent.block kind was.refused,
-        subst (λ (b : ℕ). IsUnsent run b kind) at
-            (unsent run e.sent.sent.manifest e.sent.sent.block kind e.sent.kept.tree (of_run run e.sent.sent.manifest e.sent.sent.block e.sent.sent.answer kind e.sent.kept.refused near)),
-      )
+  go (inl near) = plan_cause manifest block e.sent kind near
   go (inr far) = absurd (subst (λ (x : EndAnswer). IsHeard x e.received.received.history) far e.received.heard)

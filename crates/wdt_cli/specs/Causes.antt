@@ -1,4 +1,4 @@
--- Why a copy over connections ends as it does.
+-- Why a transfer over connections ends as it does.
 use Rattle.std.specs.Prelude.{◌≡◌, ◌↔◌, ◌⊎◌, ℕ, Bool, true, false, List, length, map, Option, Some, None, IfSome}
 use Rattle.std.specs.List.{Contains}
 use Rattle.wdt_units.specs.Have.{HaveFile}
@@ -26,8 +26,8 @@ use Rattle.wdt_tool.specs.Refusals.{IsListingCause, IsLogCause, plan_refusal}
 use Rattle.wdt_tool.specs.declared.status.Status.{Status}
 use Rattle.wdt_tool.specs.declared.status.Status.TheVariants.{Done, Usage, NoMemory, Refused}
 use Rattle.wdt_words.specs.declared.command.Transfer.{Transfer}
-use Rattle.wdt_words.specs.declared.command.Transfer.TheVariants.{Copy}
-use Rattle.wdt_cli.specs.Judging.{first_of, status_of}
+use Rattle.wdt_words.specs.declared.command.Transfer.TheVariants.{Copy, Send, Recv}
+use Rattle.wdt_sending.specs.Judging.{first_of, status_of}
 
 -- ---- the ends
 
@@ -37,25 +37,36 @@ pub record Met : Type 0 where
   pub cut : Bool
   pub alarmed : Bool
 
--- Both ends ran, and what came of it: the sender is of its run and as it began, so many files are the sender's, the
--- histories are theirs, and the status, before it was written, is the first of what their answers come to. The
--- receiver is done exactly where its lanes are, and it noted what its answer tells that it heard.
-pub record BothEnded (run : Option ToldRun) (files : ℕ) (sender : List SendEvent) (receiver : List RecvEvent) (status : Status) : Type 0 where
+-- A sending end ran, and what came of it: the sender is of its run and as it began, so many files are its own, the
+-- history is its, and the status is what its answer comes to.
+pub record SenderRan (run : Option ToldRun) (files : ℕ) (sender : List SendEvent) (status : Status) : Type 0 where
   pub sent : PlainSender
   pub is_sender : IsSender sent
   pub begun : Begun
   pub kept : IsKept run begun sent
   pub sent_is : sender ≡ sent.history
   pub counted : files ≡ length sent.manifest
-  pub sender_met : Met
+  pub met : Met
+  pub judged : status ≡ status_of met.lost met.cut met.alarmed sent.answer
+
+-- A receiving end ran, and what came of it: the history is its, the status is what its answer comes to, it is done
+-- exactly where its lanes are, and it noted what its answer tells that it heard.
+pub record ReceiverRan (receiver : List RecvEvent) (status : Status) : Type 0 where
   pub received : PlainReceiver
   pub is_receiver : IsReceiver received
   pub received_is : receiver ≡ received.history
   pub done : (received.answer ≡ answers.Done) ↔ (has_all_done received ≡ true)
   pub heard : IsHeard received.answer received.history
-  pub receiver_met : Met
-  pub judged : status ≡ first_of (status_of sender_met.lost sender_met.cut sender_met.alarmed sent.answer)
-      (status_of false receiver_met.cut receiver_met.alarmed received.answer)
+  pub met : Met
+  pub judged : status ≡ status_of false met.cut met.alarmed received.answer
+
+-- both ends ran, and the status, before it was written, is the first of what their answers come to
+pub record BothEnded (run : Option ToldRun) (files : ℕ) (sender : List SendEvent) (receiver : List RecvEvent) (status : Status) : Type 0 where
+  pub near : Status
+  pub far : Status
+  pub sent : SenderRan run files sender near
+  pub received : ReceiverRan receiver far
+  pub judged : status ≡ first_of near far
 
 -- ---- what an end heard
 
@@ -94,9 +105,15 @@ abbrev pub IsCopyCause : Option ToldRun → ℕ → Option (List Entry) → Opti
 IsCopyCause run block listing told kind =
     IsListingCause listing kind ⊎ ((IfSome listing IsAccepted × IsLogCause told kind) ⊎ IsPlanCause run block kind)
 
--- the same of a transfer
+-- a send is refused for its listing, or else for the plan against what the receiver has
+abbrev pub IsSendCause : Option ToldRun → ℕ → Option (List Entry) → RefusedKind → Type 0
+IsSendCause run block listing kind = IsListingCause listing kind ⊎ IsPlanCause run block kind
+
+-- a transfer is refused for this: a receiver for its log alone
 abbrev pub IsTransferCause : Option ToldRun → Transfer → Option (List Entry) → Option Told → RefusedKind → Type 0
 IsTransferCause run (Copy lanes block batch) listing told kind = IsCopyCause run block listing told kind
+IsTransferCause run (Send port lanes block session) listing told kind = IsSendCause run block listing kind
+IsTransferCause run (Recv port lanes batch) listing told kind = IsLogCause told kind
 
 -- ---- completeness
 

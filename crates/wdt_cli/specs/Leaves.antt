@@ -1,4 +1,4 @@
--- What a copy over connections leaves, part by part, by the status that it ends with.
+-- What a transfer over connections leaves, part by part, by the status that it ends with.
 use Rattle.std.specs.Prelude.{◌≡◌, ◌⊎◌, ℕ, List, [], Option, IfSome}
 use Rattle.wdt_units.specs.Counts.{capped}
 use Rattle.wdt_units.specs.Tree.{File}
@@ -15,7 +15,8 @@ use Rattle.wdt_lanes.specs.Seats.{IsBack, SameSource}
 use Rattle.wdt_yard.specs.Turns.{IsLegalOfSome}
 use Rattle.wdt_tool.specs.declared.status.Status.{Status}
 use Rattle.wdt_tool.specs.declared.status.Status.TheVariants.{Done, SourceFault, DiskFault, LinkFault, Peer, Aborted, OutFault}
-use Rattle.wdt_cli.specs.Carried.{DepotRose, IsLegalBySome, KeepsOthers, LandsIn, SomeRose, StaysGood}
+use Rattle.wdt_sending.specs.Counted.{SomeRose}
+use Rattle.wdt_cli.specs.Carried.{DepotRose, IsLegalBySome, KeepsOthers, LandsIn, StaysGood}
 use Rattle.wdt_cli.specs.Causes.{HasAbort, HasPeer}
 
 -- Each source comes back as it tells its tree and was asked for its own bytes alone, and a source failed only where

@@ -1,18 +1,29 @@
--- What a copy over connections puts to its sink.
+-- What a transfer over connections puts to its sink.
 use Rattle.std.specs.Prelude.{◌≡◌, ◌⊎◌, ℕ, ◌++◌, List, [], ◌∷◌, Option, Some, None}
 use Rattle.wdt_units.specs.Counts.{Rises}
 use Rattle.wdt_tree.specs.Told.{ToldRun}
 use Rattle.wdt_sender_fsm.specs.declared.events.SendEvent.{SendEvent}
 use Rattle.wdt_receiver_fsm.specs.declared.events.RecvEvent.{RecvEvent}
-use Rattle.wdt_report.specs.Lines.{copy_text}
+use Rattle.wdt_report.specs.Lines.{copy_text, recv_text, send_text}
 use Rattle.wdt_tool.specs.Lines.{last_line, Got, GotMost}
 use Rattle.wdt_tool.specs.declared.status.Status.{Status}
-use Rattle.wdt_cli.specs.Causes.{BothEnded}
 use Rattle.wdt_tool.specs.declared.status.Status.TheVariants.{Done, Usage, SourceFault, DiskFault, LinkFault, Peer, Aborted, Refused, OutFault, NoMemory}
+use Rattle.wdt_words.specs.declared.command.Transfer.{Transfer}
+use Rattle.wdt_words.specs.declared.command.Transfer.TheVariants.{Copy, Send, Recv}
+use Rattle.wdt_cli.specs.Causes.{BothEnded, ReceiverRan, SenderRan}
+use Rattle.wdt_cli.specs.declared.reporting.Report.{Report}
+use Rattle.wdt_cli.specs.declared.reporting.Report.TheVariants as reports
 
--- the report of both ends' histories, of so many files, and the last line of a status
-abbrev pub report_text : ℕ → List SendEvent → List RecvEvent → Status → List ℕ
-report_text files sender receiver status = copy_text files (sender ∷ []) (receiver ∷ []) ++ last_line status
+-- The report of a run, by the histories of its ends: of a copy of so many files, of a sender of so many, or of a
+-- receiver.
+abbrev pub text_in : Report → List SendEvent → List RecvEvent → List ℕ
+text_in (reports.Copy files) sender receiver = copy_text files (sender ∷ []) (receiver ∷ [])
+text_in (reports.Send files) sender receiver = send_text files sender
+text_in reports.Recv sender receiver = recv_text receiver
+
+-- it stands before the last line of a status
+abbrev pub report_text : Report → List SendEvent → List RecvEvent → Status → List ℕ
+report_text report sender receiver status = text_in report sender receiver ++ last_line status
 
 -- A text was put, behind which a status stands: the sink got all of it behind Done, and a front of it where the
 -- sink failed. Where memory ran out nothing is promised.
@@ -27,10 +38,10 @@ before_lines OutFault = Done
 before_lines status = status
 
 -- Behind a run the sink got the report and the last line of the status before they were put.
-abbrev pub PrintsRun : ℕ → List SendEvent → List RecvEvent → Status → ℕ → ℕ → Option (List ℕ) → Option (List ℕ) → Type 0
-PrintsRun files sender receiver status before after old new = PrintsText (report_text files sender receiver (before_lines status)) status before after old new
+abbrev pub PrintsRun : Report → List SendEvent → List RecvEvent → Status → ℕ → ℕ → Option (List ℕ) → Option (List ℕ) → Type 0
+PrintsRun report sender receiver status before after old new = PrintsText (report_text report sender receiver (before_lines status)) status before after old new
 
--- A status behind its lines is the one before them, but that a copy which was done couldn't say so where the sink's
+-- A status behind its lines is the one before them, but that a run which was done couldn't say so where the sink's
 -- count of faults rose, and memory may have run out.
 abbrev pub IsPut : Status → Status → ℕ → ℕ → Type 0
 IsPut status OutFault before after = (status ≡ Done) × Rises before after
@@ -44,14 +55,39 @@ IsPut status (Peer kind) before after = status ≡ Peer kind
 IsPut status (Aborted code) before after = status ≡ Aborted code
 IsPut status (Refused kind) before after = status ≡ Refused kind
 
--- Both ends ran: the histories are theirs, the status is what came of them unless memory ran out, and the sink got
--- the report of the sender's files.
-pub record EndsRun (run : Option ToldRun) (sender : List SendEvent) (receiver : List RecvEvent) (status : Status) (before after : ℕ) (old new : Option (List ℕ)) : Type 0 where
+-- The ends of a run came to a status, by so many files, unless memory ran out, and the sink got the run's report.
+pub record EndsAs (ended : ℕ → Status → Type 0) (report : ℕ → Report) (sender : List SendEvent) (receiver : List RecvEvent) (status : Status) (before after : ℕ) (old new : Option (List ℕ)) : Type 0 where
   pub files : ℕ
-  pub ended : (status ≡ NoMemory) ⊎ BothEnded run files sender receiver (before_lines status)
-  pub prints : PrintsRun files sender receiver status before after old new
+  pub ended : (status ≡ NoMemory) ⊎ ended files (before_lines status)
+  pub prints : PrintsRun (report files) sender receiver status before after old new
 
--- before both ends were opened it got the last line alone
+-- both ends of a copy ran
+abbrev pub CopyEnds : Option ToldRun → List SendEvent → List RecvEvent → Status → ℕ → ℕ → Option (List ℕ) → Option (List ℕ) → Type 0
+CopyEnds run sender receiver status before after old new =
+    EndsAs (λ files s. BothEnded run files sender receiver s) (λ files. reports.Copy files) sender receiver status before after old new
+
+-- the sending end alone ran
+abbrev pub SendEnds : Option ToldRun → List SendEvent → List RecvEvent → Status → ℕ → ℕ → Option (List ℕ) → Option (List ℕ) → Type 0
+SendEnds run sender receiver status before after old new =
+    EndsAs (λ files s. SenderRan run files sender s) (λ files. reports.Send files) sender receiver status before after old new
+
+-- the receiving end alone ran
+abbrev pub RecvEnds : List SendEvent → List RecvEvent → Status → ℕ → ℕ → Option (List ℕ) → Option (List ℕ) → Type 0
+RecvEnds sender receiver status before after old new =
+    EndsAs (λ files s. ReceiverRan receiver s) (λ files. reports.Recv) sender receiver status before after old new
+
+-- the ends of a transfer ran: both of a copy, or the one that it has
+abbrev pub EndsRun : Transfer → Option ToldRun → List SendEvent → List RecvEvent → Status → ℕ → ℕ → Option (List ℕ) → Option (List ℕ) → Type 0
+EndsRun (Copy lanes block batch) run sender receiver status before after old new = CopyEnds run sender receiver status before after old new
+EndsRun (Send port lanes block session) run sender receiver status before after old new = SendEnds run sender receiver status before after old new
+EndsRun (Recv port lanes batch) run sender receiver status before after old new = RecvEnds sender receiver status before after old new
+
+-- those of the transfer that words are; where they are none, no end ran
+abbrev pub EndsWords : Option Transfer → Option ToldRun → List SendEvent → List RecvEvent → Status → ℕ → ℕ → Option (List ℕ) → Option (List ℕ) → Type 0
+EndsWords None run sender receiver status before after old new = ⊥
+EndsWords (Some transfer) run sender receiver status before after old new = EndsRun transfer run sender receiver status before after old new
+
+-- before its ends were opened it got the last line alone
 abbrev pub PrintsEnd : Status → ℕ → ℕ → Option (List ℕ) → Option (List ℕ) → Type 0
 PrintsEnd Usage before after old new = GotMost (last_line Usage) before after old new
 PrintsEnd SourceFault before after old new = GotMost (last_line SourceFault) before after old new

@@ -1,10 +1,10 @@
 //! What the tests of copies run on.
-ghost use Rattle.std.specs.Prelude.{◌≡◌, IfOk, Some, length, map, string_bytes};
+ghost use Rattle.std.specs.Prelude.{◌≡◌, IfOk, IfSome, length, map, string_bytes};
 ghost use Rattle.wdt_words.specs.Words.{transfer_of};
+ghost use Rattle.wdt_cli.specs.Carried.{IsServed};
 
 use crate::carry::{Carried, carry};
 use crate::gated::gated;
-use crate::transferring::lanes_of;
 use std::alloc::Global;
 use std::sync::Wait;
 use std::sync::atomic::AtomicBool;
@@ -65,8 +65,8 @@ fn source_of(alloc: Global, files: &[Listed<'_>], fails: &[u32]) -> Result<MemSo
     Ok(MemSource::of(listed, Vec::from_slice(alloc, fails)?))
 }
 
-// Sources of these files, of which each fails so.
-fn sources_of(
+/// A source of these files for each lane, of whose calls these fail, by their numbers from 1.
+pub fn sources_of(
     alloc: Global,
     lanes: u8,
     files: &[Listed<'_>],
@@ -89,14 +89,22 @@ pub fn copy_over_pipes<R: Threads + Wait + Clone + Drop + Send + Sync>(
     files: &[Listed<'_>],
     fails: &Failing<'_>,
 ) -> Result<Copied, Fail> {
+    let texts = texts_of(alloc, words)?;
+    match transfer_of(&texts) {
+        Some(Transfer::Copy { lanes, .. }) => {
+            run_over_pipes(rt, alloc, &texts, lanes, files, fails)
+        }
+        _ => Err(Fail::from("the words are no copy")),
+    }
+}
+
+/// The words as a process is started with them.
+pub fn texts_of(alloc: Global, words: &[&str]) -> Result<Vec<String>, Fail> {
     let mut texts = Vec::new(alloc);
     for word in words {
         texts.push(String::from_str(alloc, word)?)?;
     }
-    match transfer_of(&texts) {
-        Some(command) => run_over_pipes(rt, alloc, &texts, command, files, fails),
-        None => Err(Fail::from("the words are no copy")),
-    }
+    Ok(texts)
 }
 
 // The same of words that are one.
@@ -104,13 +112,12 @@ fn run_over_pipes<R: Threads + Wait + Clone + Drop + Send + Sync>(
     rt: &R,
     alloc: Global,
     words: &[String],
-    command: Transfer,
+    lanes: u8,
     files: &[Listed<'_>],
     fails: &Failing<'_>,
 ) -> Result<Copied, Fail>
-    requires { transfer_of (map string_bytes words.now) ≡ Some command }
+    requires { IfSome (transfer_of (map string_bytes words.now)) (λ transfer. IsServed transfer lanes lanes lanes) }
 {
-    let lanes = lanes_of(command);
     let sources = sources_of(alloc, lanes, files, fails.sources)?;
     let depot = MemDepot::of(alloc, Vec::new(alloc), Vec::new(alloc))?;
     let dials = Vec::from_slice(alloc, fails.dials)?;

@@ -1,28 +1,38 @@
-//! The report of a copy, and its last line.
+//! The report of a run over connections, and its last line.
 ghost use Rattle.std.specs.Prelude.{◌≡◌, ◌≢◌, ◌++◌, IfOk, OnErr, map};
-ghost use Rattle.wdt_report.specs.Lines.{copy_text};
+ghost use Rattle.wdt_report.specs.Lines.{copy_text, recv_text, send_text};
 ghost use Rattle.wdt_tool.specs.Lines.{last_line};
-ghost use Rattle.wdt_cli.specs.Printed.{IsPut, PrintsRun, PrintsText};
+ghost use Rattle.wdt_cli.specs.Printed.{IsPut, PrintsRun, PrintsText, report_text};
 
 use crate::carry::Carried;
 use std::alloc::{AllocError, Global};
 use wdt_receiver_fsm::RecvEvent;
-use wdt_report::copy_lines;
+use wdt_report::{Lines, copy_lines, recv_lines, send_lines};
 use wdt_sender_fsm::SendEvent;
 use wdt_tool::{Status, last_line};
 use wdt_units::Sink;
 
-/// Puts the report of a copy of so many files and its last line, in one call. Where memory ran out nothing
-/// is put.
+/// What a report is of.
+#[derive(Clone, Copy)]
+pub enum Report {
+    /// Both ends of a copy of so many files.
+    Copy(u32),
+    /// A sending end of so many files.
+    Send(u32),
+    /// A receiving end.
+    Recv,
+}
+
+/// Puts the report and the last line of a run, in one call. Where memory ran out nothing is put.
 pub fn put_report<S, D, C, A, O: Sink>(
     alloc: Global,
-    files: u32,
+    report: Report,
     carried: Carried<S, D, C, A>,
     out: &mut O,
 ) -> Carried<S, D, C, A>
     requires { carried.status ≢ Status.OutFault }
     ensures status { IsPut carried.status result.status (O.faults out.old) (O.faults out.new) }
-    ensures prints { PrintsRun files result.sender.items result.receiver.items result.status (O.faults out.old) (O.faults out.new) (O.written out.old) (O.written out.new) }
+    ensures prints { PrintsRun report result.sender.items result.receiver.items result.status (O.faults out.old) (O.faults out.new) (O.written out.old) (O.written out.new) }
     ensures sender { result.sender ≡ carried.sender }
     ensures receiver { result.receiver ≡ carried.receiver }
     ensures sources { result.sources ≡ carried.sources }
@@ -39,12 +49,12 @@ pub fn put_report<S, D, C, A, O: Sink>(
         dialers,
         acceptors,
     } = carried;
-    let sent = [sender];
-    let received = [receiver];
-    let text = report_text(alloc, files, &sent, &received, &status);
+    let Told {
+        text,
+        sender,
+        receiver,
+    } = told(alloc, report, sender, receiver, &status);
     let status = put_text(text, status, out);
-    let [sender] = sent;
-    let [receiver] = received;
     Carried {
         status,
         sender,
@@ -56,8 +66,65 @@ pub fn put_report<S, D, C, A, O: Sink>(
     }
 }
 
-// The lines of a copy: its report, and the last line.
-fn report_text(
+// What is to be put, where there was memory for it, and the histories of which it tells.
+struct Told {
+    text: Result<Vec<u8>, AllocError>,
+    sender: Vec<SendEvent>,
+    receiver: Vec<RecvEvent>,
+}
+
+// The report and the last line.
+fn told(
+    alloc: Global,
+    report: Report,
+    sender: Vec<SendEvent>,
+    receiver: Vec<RecvEvent>,
+    status: &Status,
+) -> Told
+    ensures text { IfOk result.text (λ text. text.items ≡ report_text report sender.items receiver.items status.now) }
+    ensures sender { result.sender ≡ sender }
+    ensures receiver { result.receiver ≡ receiver }
+{
+    match report {
+        Report::Copy(files) => copy_told(alloc, files, sender, receiver, status),
+        Report::Send(files) => Told {
+            text: send_text(alloc, files, &sender, status),
+            sender,
+            receiver,
+        },
+        Report::Recv => Told {
+            text: recv_text(alloc, &receiver, status),
+            sender,
+            receiver,
+        },
+    }
+}
+
+// Those of a copy, which has one session.
+fn copy_told(
+    alloc: Global,
+    files: u32,
+    sender: Vec<SendEvent>,
+    receiver: Vec<RecvEvent>,
+    status: &Status,
+) -> Told
+    ensures text { IfOk result.text (λ text. text.items ≡ report_text (Report.Copy files) sender.items receiver.items status.now) }
+    ensures sender { result.sender ≡ sender }
+    ensures receiver { result.receiver ≡ receiver }
+{
+    let sent = [sender];
+    let received = [receiver];
+    let text = copy_text(alloc, files, &sent, &received, status);
+    let [sender] = sent;
+    let [receiver] = received;
+    Told {
+        text,
+        sender,
+        receiver,
+    }
+}
+
+fn copy_text(
     alloc: Global,
     files: u32,
     sent: &[Vec<SendEvent>; 1],
@@ -69,13 +136,47 @@ fn report_text(
     let Ok(lines) = copy_lines(alloc, files, sent, received) else {
         return Err(AllocError);
     };
+    with_last(alloc, lines, status)
+}
+
+fn send_text(
+    alloc: Global,
+    files: u32,
+    sent: &[SendEvent],
+    status: &Status,
+) -> Result<Vec<u8>, AllocError>
+    ensures { IfOk result (λ text. text.items ≡ send_text files sent.now ++ last_line status.now) }
+{
+    let Ok(lines) = send_lines(alloc, files, sent) else {
+        return Err(AllocError);
+    };
+    with_last(alloc, lines, status)
+}
+
+fn recv_text(
+    alloc: Global,
+    received: &[RecvEvent],
+    status: &Status,
+) -> Result<Vec<u8>, AllocError>
+    ensures { IfOk result (λ text. text.items ≡ recv_text received.now ++ last_line status.now) }
+{
+    let Ok(lines) = recv_lines(alloc, received) else {
+        return Err(AllocError);
+    };
+    with_last(alloc, lines, status)
+}
+
+// The lines of a report, and the last line behind them.
+fn with_last(alloc: Global, lines: Lines, status: &Status) -> Result<Vec<u8>, AllocError>
+    ensures { IfOk result (λ text. text.items ≡ lines ++ last_line status.now) }
+{
     let mut text = lines.into_bytes();
     let last = last_line(alloc, status)?;
     text.extend_from_slice(&last)?;
     Ok(text)
 }
 
-// Puts the lines, where there was memory for them. A copy that went well and can't say so has its own
+// Puts the lines, where there was memory for them. A run that went well and can't say so has its own
 // status; every other status stays.
 fn put_text<O: Sink>(text: Result<Vec<u8>, AllocError>, status: Status, out: &mut O) -> Status
     requires { status ≢ Status.OutFault }

@@ -1,7 +1,9 @@
 //! What no clause says: that copies succeed, and worked examples of their lines.
 use crate::fixtures::{Failing, Listed, NOTHING, copy_over_pipes};
+use crate::tcp_fixtures::{own_host, receive_at, send_to};
 use std::alloc::Global;
 use std::test::Fail;
+use std::thread;
 use wdt_receiver_fsm::RecvEvent;
 use wdt_units::{Lane, Name};
 
@@ -104,6 +106,33 @@ fn lanes_run_side_by_side(rt: HostRuntime) -> Result<(), Fail> {
         };
         let copied = copy_over_pipes(&rt, rt.alloc(), &words, &files, &fails)?;
         assert_eq!(rt; copied.lines.as_slice(), told.as_slice());
+    }
+    Ok(())
+}
+
+#[test]
+fn a_send_and_a_receiver_copy_over_tcp(rt: HostRuntime) -> Result<(), Fail> {
+    let alloc = rt.alloc();
+    let host = own_host(&rt)?;
+    let big = pattern(alloc, 7, 200_000)?;
+    let files: [Listed<'_>; 3] = [("a", b"hi"), ("b/c", &big), ("d", b"")];
+    let send = ["send", "SRC", "HOST", "7000", "--lanes", "2"];
+    let recv = ["recv", "DST", "HOST", "7000", "--lanes", "2"];
+    let (sent, received) = thread::join(
+        &rt,
+        || send_to(&rt, &send, host.as_str(), &files),
+        || receive_at(&rt, &recv, host.as_str()),
+    );
+    let (sent, received) = (sent?, received?);
+    assert_eq!(rt; (sent.status.code(), received.status.code()), (0, 0));
+    let told = b"files 3\nblocks 3\nbytes 200002\nconnections 2\nrequeued 0\nok\n";
+    assert_eq!(rt; sent.lines.as_slice(), told.as_slice());
+    let told = b"blocks 3\nbytes 200002\nconnections 2\nclosed 0\nok\n";
+    assert_eq!(rt; received.lines.as_slice(), told.as_slice());
+    let depot = received.depot.ok_or("no depot")?;
+    for (path, bytes) in &files {
+        let path = Name::read(alloc, path.as_bytes())?;
+        assert!(rt; depot.shown(&path) == Some(*bytes));
     }
     Ok(())
 }

@@ -1,0 +1,4 @@
+pub mod ForCallers
+pub mod Judged
+pub mod Meeting
+pub mod Unopened
