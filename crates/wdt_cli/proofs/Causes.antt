@@ -13,10 +13,10 @@ use Rattle.wdt_tool.specs.Causes.{IsDoneOrStarved}
 use Rattle.wdt_tool.specs.declared.status.Status.{Status}
 use Rattle.wdt_tool.specs.declared.status.Status.TheVariants.{Done, Usage, SourceFault, DiskFault, LinkFault, Peer, Aborted, Refused, OutFault, NoMemory}
 use Rattle.wdt_words.specs.declared.command.Transfer.{Transfer}
+use Rattle.wdt_sending.specs.Causes.{HasAbort, HasPeer, HeardNothing, IsTransferCause, IsUnrefused}
 use Rattle.wdt_sending.specs.Counted.{NoneRose, SomeRose}
+use Rattle.wdt_sending.specs.Leaves.{LeavesHistories, LinkRose}
 use Rattle.wdt_cli.specs.Carried.{DepotRose, DepotStands}
-use Rattle.wdt_cli.specs.Causes.{HasAbort, HasPeer, HeardNothing, IsTransferCause, IsUnrefused}
-use Rattle.wdt_cli.specs.Leaves.{LeavesHistories, LinkRose}
 
 not_both : (old new : ℕ) → Rises old new → Stands old new → ⊥
 not_both old new rose stood = omega (arith, rose.more stood.below, stood.same)

@@ -148,3 +148,20 @@ depot_left {D} state run {begun = begun} before {lost = lost} {cut = cut} {alarm
       lost_at : (e.sent.sent.answer ≡ answers.Disk) ⊎ (e.received.received.answer ≡ answers.Disk) → DepotRose state before depot
       lost_at (inl near) = absurd (e.sent.diskless near)
       lost_at (inr far) = subst (λ (x : Option D). DepotRose state before x) (sym e.received.back) (e.received.kept.lost (subst HasLostDisk (sym far) tt))
+
+-- ---- where it has no use
+
+-- a depot of a send
+pub unused_depot : {D : Type 0} (state : D → State) (depot : D) (status : Status) (after : Option D) → after ≡ Some depot → (state depot).spots ≡ [] → (status ≡ DiskFault → ⊥)
+    → LeavesDepot state None (state depot) status after
+unused_depot {D} state depot status after is spots never =
+    subst (λ (x : Option D). LeavesDepot state None (state depot) status x) (sym is) record {
+      landed = λ done. tt;
+      unwritten = λ out. tt;
+      good = tt;
+      images = tt;
+      others = tt;
+      slips = tt;
+      spots = spots;
+      fault = λ e. absurd (never e);
+    }

@@ -11,11 +11,11 @@ use Rattle.wdt_lanes.specs.Kept.{Begun}
 use Rattle.wdt_recv_lanes.specs.Kept.{Started}
 use Rattle.wdt_tool.specs.declared.status.Status.{Status}
 use Rattle.wdt_tool.specs.declared.status.Status.TheVariants.{Done, Usage, OutFault, NoMemory}
-use Rattle.wdt_sending.specs.Sending.{SenderEnds, SenderLeaves, SenderTaken}
-use Rattle.wdt_cli.specs.Causes.{BothEnded, ReceiverRan, SenderRan}
+use Rattle.wdt_sending.specs.Causes.{BothEnded, ReceiverRan, SenderRan}
 use Rattle.wdt_sending.specs.Judging.{first_of, has_some, status_of}
+use Rattle.wdt_sending.specs.Sending.{SenderEnds, SenderLeaves, SenderTaken}
+use Rattle.wdt_sending.proofs.ForCallers.{IsAnswerOf, both_done, either, first_starved, never_for, second_starved, sender_ran}
 use Rattle.wdt_cli.specs.Sides.{ReceiverEnds, ReceiverLeaves, ReceiverTaken}
-use Rattle.wdt_sending.proofs.ForCallers.{IsAnswerOf, both_done, either, first_starved, never_for, second_starved}
 
 -- both ends were taken, and the status is the first of what they come to
 pub record Ends {D : Type 0} (state : D → State) (run : Option ToldRun) (begun : Begun) (start : Started) (lost cut alarmed far_cut far_alarmed : LaneSet)
@@ -88,21 +88,6 @@ not_out {lost = lost} {cut = cut} {alarmed = alarmed} {far_cut = far_cut} {far_a
     never_for (has_some lost) (has_some cut) (has_some alarmed) e.sent.sent.answer false (has_some far_cut) (has_some far_alarmed) e.received.received.answer (inr (answer_behind e OutFault is))
 
 -- ---- how they ended
-
--- a sending end, of so many files
-pub sender_ran : {run : Option ToldRun} {begun : Begun} {lost cut alarmed : LaneSet} {h : List SendEvent} {status : Status} (t : SenderTaken run begun lost cut alarmed h status) (files : ℕ)
-    → files ≡ length begun.manifest → SenderRan run files h status
-sender_ran {begun = begun} {lost = lost} {cut = cut} {alarmed = alarmed} t files counted =
-    record {
-      sent = t.sent;
-      is_sender = t.is_sender;
-      begun = begun;
-      kept = t.kept;
-      sent_is = t.noted;
-      counted = counted ∙ ap length (sym t.kept.manifest);
-      met = record { lost = has_some lost; cut = has_some cut; alarmed = has_some alarmed };
-      judged = t.judged;
-    }
 
 -- a receiving end
 pub receiver_ran : {D : Type 0} {state : D → State} {run : Option ToldRun} {start : Started} {cut alarmed : LaneSet} {depot : Option D} {g : List RecvEvent} {status : Status}

@@ -4,12 +4,9 @@ pub mod Early
 pub mod Ends
 pub mod Handed
 pub mod Left
-pub mod Listing
 pub mod Opening
 pub mod Pipes
 pub mod Puts
-pub mod Refusals
 pub mod ReceivedAlone
-pub mod SentAlone
+pub mod Refusals
 pub mod Sockets
-pub mod Sources

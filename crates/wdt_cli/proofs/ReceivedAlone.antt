@@ -17,17 +17,16 @@ use Rattle.wdt_lanes.specs.LaneLists.{EachLane}
 use Rattle.wdt_recv_lanes.specs.Kept.{Started, started_of}
 use Rattle.wdt_tool.specs.declared.status.Status.{Status}
 use Rattle.wdt_tool.specs.declared.status.Status.TheVariants.{Done, Usage, SourceFault, DiskFault, LinkFault, Peer, Aborted, Refused, OutFault, NoMemory}
+use Rattle.wdt_sending.specs.Causes.{ReceiverRan}
 use Rattle.wdt_sending.specs.Judging.{has_some}
+use Rattle.wdt_sending.specs.Leaves.{IsLegalBySome, LeavesHistories, LeavesLinks, LeavesSources}
 use Rattle.wdt_sending.specs.Sending.{MetAtRest}
-use Rattle.wdt_sending.proofs.ForCallers.{IsAnswerOf, answer_of, peer_for}
-use Rattle.wdt_cli.specs.Carried.{DepotRose, IsLegalBySome, LandsIn}
-use Rattle.wdt_cli.specs.Causes.{ReceiverRan}
-use Rattle.wdt_cli.specs.Leaves.{LeavesDepot, LeavesHistories, LeavesLinks, LeavesSources}
+use Rattle.wdt_sending.proofs.ForCallers.{IsAnswerOf, answer_of, peer_for, none_sent, received_entry}
+use Rattle.wdt_cli.specs.Carried.{DepotRose, LandsIn}
+use Rattle.wdt_cli.specs.Leaves.{LeavesDepot}
 use Rattle.wdt_cli.specs.Sides.{ReceiverEnds, ReceiverTaken}
 use Rattle.wdt_cli.proofs.Depots.{Arrives, Keeps, keeps_of, landed_at}
-use Rattle.wdt_cli.proofs.Early.{none_sent}
 use Rattle.wdt_cli.proofs.Ends.{receiver_ran}
-use Rattle.wdt_cli.proofs.Left.{received_entry}
 
 -- the answer that a status comes of
 answer_for : {D : Type 0} {state : D → State} {run : Option ToldRun} {start : Started} {cut alarmed : LaneSet} {depot : Option D} {g : List RecvEvent} {status : Status}

@@ -1,5 +1,5 @@
 -- What a transfer over connections is handed, and what it leaves.
-use Rattle.std.specs.Prelude.{◌≡◌, ◌≢◌, ℕ, List, [], ◌∷◌, Option, Some, None, Ok, IfSome}
+use Rattle.std.specs.Prelude.{◌≡◌, ◌≢◌, ℕ, List, [], Option, Some, None, Ok, IfSome}
 use Rattle.wdt_units.specs.Counts.{Rises, Stands}
 use Rattle.wdt_units.specs.Have.{HaveFile}
 use Rattle.wdt_units.specs.Tree.{File}
@@ -11,7 +11,6 @@ use Rattle.wdt_logfmt.specs.View.{Meaning, have_of}
 use Rattle.wdt_good.specs.Good.{log_of}
 use Rattle.wdt_good.specs.Logged.{AllFit}
 use Rattle.wdt_sender_fsm.specs.declared.events.SendEvent.{SendEvent}
-use Rattle.wdt_receiver_fsm.specs.Legal.{IsLegal, Terms}
 use Rattle.wdt_receiver_fsm.specs.declared.events.RecvEvent.{RecvEvent}
 use Rattle.wdt_words.specs.declared.command.Transfer.{Transfer}
 use Rattle.wdt_words.specs.declared.command.Transfer.TheVariants.{Copy, Send, Recv}
@@ -35,11 +34,6 @@ stored_run None run = run
 stored_run (Some (Copy lanes block batch)) run = run
 stored_run (Some (Send port lanes block session)) run = None
 stored_run (Some (Recv port lanes batch)) run = run
-
--- what the first of these tells, where it tells that
-abbrev pub first_told : {S X : Type 0} → (S → Option X) → List S → Option X
-first_told tell [] = None
-first_told tell (object ∷ objects) = tell object
 
 -- the log of a disk means that a destination has so much
 abbrev pub HasLogged : Disk → List HaveFile → Type 0
@@ -69,10 +63,6 @@ ReadsOthers tree d (Some u) = (path : List ℕ) → IsBeside tree path → seen_
 -- so does the depot that came back, where it was told
 abbrev pub KeepsOthers : {D : Type 0} → (D → State) → List File → Option Told → Option D → Type 0
 KeepsOthers state tree told depot = IfSome depot (λ d. IfTold (λ t. ReadsOthers tree t.now (state d).told) told)
-
--- a receiver's history that is legal, by some terms
-abbrev pub IsLegalBySome : List RecvEvent → Type 0
-IsLegalBySome g = (t : Terms) × IsLegal t g
 
 -- A send hands the depot back as it was handed in, so that no disk fails, and nothing happens at a receiving end. A
 -- receiver has no source that could fail, and nothing happens at a sending end.

@@ -18,8 +18,8 @@ use Rattle.wdt_tool.specs.declared.fail.CommandFail.{CommandFail}
 use Rattle.wdt_tool.specs.declared.fail.CommandFail.TheVariants.{Source, Disk, Refused, NoMemory}
 use Rattle.wdt_tool.specs.declared.status.Status.{Status}
 use Rattle.wdt_cli.specs.declared.copying.Opening.{Opening}
-use Rattle.wdt_cli.specs.Carried.{IsGivenTo}
 use Rattle.wdt_sending.specs.Judging.{first_of}
+use Rattle.wdt_cli.specs.Carried.{IsGivenTo}
 
 -- ---- what a copy is handed
 

@@ -20,8 +20,8 @@ use Rattle.wdt_recv_lanes.specs.Kept.{IsKept as IsKeptDock, Started}
 use Rattle.wdt_tool.specs.declared.status.Status.{Status}
 use Rattle.wdt_tool.specs.declared.status.Status.TheVariants.{NoMemory}
 use Rattle.wdt_sending.specs.Judging.{has_some, status_of}
+use Rattle.wdt_sending.specs.Leaves.{IsLegalBySome}
 use Rattle.wdt_sending.specs.Sending.{MetAtRest}
-use Rattle.wdt_cli.specs.Carried.{IsLegalBySome}
 
 -- the lanes of an end may run: it has the passes of all lanes of its hub, and an acceptor with no connection out
 -- for each

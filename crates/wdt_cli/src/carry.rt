@@ -10,45 +10,27 @@ ghost use Rattle.wdt_lanes.specs.Seats.{IsBack, SameSource};
 ghost use Rattle.wdt_tool.specs.Causes.{IsDoneOrStarved};
 ghost use Rattle.wdt_words.specs.Words.{HasLimits, transfer_of};
 ghost use Rattle.wdt_yard.specs.Turns.{IsLegalOfSome};
+ghost use Rattle.wdt_sending.specs.Causes.{HasAbort, HasPeer, HeardNothing, IsTransferCause, IsUnrefused};
 ghost use Rattle.wdt_sending.specs.Counted.{NoneRose, SomeRose};
-ghost use Rattle.wdt_cli.specs.Carried.{DepotRose, DepotStands, first_told, IsGivenTo, IsLegalBySome, IsServed, KeepsApart, KeepsOthers, LandsIn, StaysGood, stored_run};
-ghost use Rattle.wdt_cli.specs.Causes.{HasAbort, HasPeer, HeardNothing, IsTransferCause, IsUnrefused};
-ghost use Rattle.wdt_cli.specs.Leaves.{LeavesDepot, LeavesHistories, LeavesLinks, LeavesSources};
-ghost use Rattle.wdt_cli.specs.Printed.{EndsWords, PrintsEarly};
+ghost use Rattle.wdt_sending.specs.Leaves.{IsLegalBySome, LeavesHistories, LeavesLinks, LeavesSources};
+ghost use Rattle.wdt_sending.specs.Printed.{EndsWords, PrintsEarly};
+ghost use Rattle.wdt_sending.specs.Told.{first_told};
+ghost use Rattle.wdt_cli.specs.Carried.{DepotRose, DepotStands, IsGivenTo, IsServed, KeepsApart, KeepsOthers, LandsIn, StaysGood, stored_run};
+ghost use Rattle.wdt_cli.specs.Leaves.{LeavesDepot};
 
 use crate::copy_run::copy_tree;
-use crate::copying::Parts;
-use crate::listing::unrun;
-use crate::receiving::recv_tree;
-use crate::sending::send_tree;
+use crate::recv_run::recv_tree;
 use std::alloc::Global;
 use std::sync::Wait;
 use std::thread::Threads;
 use wdt_depot::Depot;
 use wdt_link::{Accept, Dial};
-use wdt_receiver_fsm::RecvEvent;
-use wdt_sender_fsm::SendEvent;
+use wdt_sending::{Carried, Parts, send_tree, unrun};
 use wdt_source::Source;
 use wdt_tool::{Status, end_with};
 use wdt_tree::Run;
 use wdt_units::Sink;
 use wdt_words::{Transfer, transfer_of};
-
-/// What a transfer over connections leaves.
-#[derive(Drop)]
-pub struct Carried<S, D, C, A> {
-    pub status: Status,
-    /// All that happened at the sending end, in order.
-    pub sender: Vec<SendEvent>,
-    /// All that happened at the receiving end, in order.
-    pub receiver: Vec<RecvEvent>,
-    pub sources: Vec<S>,
-    /// The depot, or None where there was no memory to take it from the receiving end. A send hands it back
-    /// as it was.
-    pub depot: Option<D>,
-    pub dialers: Vec<C>,
-    pub acceptors: Vec<A>,
-}
 
 /// Runs the transfer that the words are, over connections: a copy, or one end of it, a send or a receiver. It
 /// may wait for these.
@@ -209,10 +191,8 @@ where
             session,
             ..
         } => send_tree::<R, N, S, D, C, A, O>(rt, alloc, lanes, block, session, parts, out),
-        Transfer::Recv {
-            lanes,
-            batch,
-            ..
-        } => recv_tree::<R, N, S, D, C, A, O>(rt, alloc, lanes, batch, parts, out),
+        Transfer::Recv { lanes, batch, .. } => recv_tree::<R, N, S, D, C, A, O>(
+            rt, alloc, lanes, batch, parts, out,
+        ),
     }
 }

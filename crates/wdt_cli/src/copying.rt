@@ -7,7 +7,6 @@ ghost use Rattle.wdt_sending.specs.Sending.{MaySend, SenderLeaves, begun_of};
 ghost use Rattle.wdt_cli.specs.Copied.{CopyLeaves, IsUnopened, MayCarry, MayOpen};
 ghost use Rattle.wdt_cli.specs.Sides.{MayReceive, ReceiverLeaves};
 
-use crate::carry::Carried;
 use crate::receiver_opening::open_receiver;
 use crate::receiver_side::{Received, ReceiverSide, run_receiver};
 use std::alloc::Global;
@@ -21,18 +20,10 @@ use wdt_gate::{Hub, MutexHub, MutexPass};
 use wdt_lanes::{Begin, KeptYard};
 use wdt_link::{Accept, Dial};
 use wdt_recv_lanes::{KeptDock, Start};
-use wdt_sending::{SenderSide, Sending, Sent, first_of, open_sender, run_sender};
+use wdt_sending::{Carried, Parts, SenderSide, Sending, Sent, first_of, open_sender, run_sender};
 use wdt_source::Source;
 use wdt_tool::CommandFail;
 use wdt_tree::{Manifest, Run};
-
-/// What a transfer is handed, and hands back.
-pub struct Parts<S, D, C, A> {
-    pub sources: Vec<S>,
-    pub depot: D,
-    pub dialers: Vec<C>,
-    pub acceptors: Vec<A>,
-}
 
 /// What both ends of a copy are opened with.
 pub struct Opening {

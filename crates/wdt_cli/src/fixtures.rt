@@ -3,7 +3,7 @@ ghost use Rattle.std.specs.Prelude.{◌≡◌, IfOk, IfSome, length, map, string
 ghost use Rattle.wdt_words.specs.Words.{transfer_of};
 ghost use Rattle.wdt_cli.specs.Carried.{IsServed};
 
-use crate::carry::{Carried, carry};
+use crate::carry::carry;
 use crate::gated::gated;
 use std::alloc::Global;
 use std::sync::Wait;
@@ -13,6 +13,7 @@ use std::thread::Threads;
 use wdt_depot::MemDepot;
 use wdt_pipes::pipe_ends;
 use wdt_receiver_fsm::RecvEvent;
+use wdt_sending::Carried;
 use wdt_source::MemSource;
 use wdt_tool::Status;
 use wdt_tree::{Plain, Untold};

@@ -4,8 +4,8 @@
 //! contracts the promises stand, and says on standard error what went wrong. Standard output has the lines
 //! of these calls alone, but for `--help` and `--version`.
 //!
-//! `carry` runs a transfer over any sources, depot and connections: `copy_run.rt`, `sending.rt` and
-//! `receiving.rt` are its three kinds, `transferring.rt` hands it real folders and sockets.
+//! `carry` runs a transfer over any sources, depot and connections: a copy (`copy_run.rt`), a receiver
+//! (`recv_run.rt`), or a send (`wdt_sending`). `transferring.rt` hands it real folders and sockets.
 #![tactic(auto)]
 
 mod carry;
@@ -15,14 +15,11 @@ mod copying;
 mod fixtures;
 #[cfg(test)]
 mod gated;
-mod listing;
 mod over_pipes;
 mod over_tcp;
 mod receiver_opening;
 mod receiver_side;
-mod receiving;
-mod reporting;
-mod sending;
+mod recv_run;
 #[cfg(test)]
 mod tcp_fixtures;
 #[cfg(test)]

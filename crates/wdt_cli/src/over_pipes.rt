@@ -3,7 +3,7 @@ ghost use Rattle.std.specs.Prelude.{IfSome, map, string_bytes};
 ghost use Rattle.wdt_words.specs.Words.{transfer_of};
 ghost use Rattle.wdt_cli.specs.Carried.{IsServed};
 
-use crate::carry::{Carried, carry};
+use crate::carry::carry;
 use crate::transferring::{failed_of, sources_of};
 use std::alloc::{AllocError, Global};
 use std::io;
@@ -15,6 +15,7 @@ use wdt_console::{Failed, explain, watched};
 use wdt_folder::{FolderDepot, FolderSource};
 use wdt_pipes::pipe_ends;
 use wdt_progress::{Cleared, Watched};
+use wdt_sending::Carried;
 use wdt_tool::Status;
 use wdt_tree::Untold;
 use wdt_units::ToWrite;

@@ -3,7 +3,7 @@ ghost use Rattle.std.specs.Prelude.{◌≤◌, ◌+◌, ◌^◌, IfSome, map, st
 ghost use Rattle.wdt_words.specs.Words.{transfer_of};
 ghost use Rattle.wdt_cli.specs.Carried.{IsServed};
 
-use crate::carry::{Carried, carry};
+use crate::carry::carry;
 use crate::transferring::{failed_of, sources_of};
 use std::alloc::{AllocError, Global};
 use std::io;
@@ -17,6 +17,7 @@ use wdt_depot::MemDepot;
 use wdt_folder::{FolderDepot, FolderSource};
 use wdt_net::{NetFault, TcpAccept, TcpDial, tcp_accepts, tcp_dials};
 use wdt_progress::Cleared;
+use wdt_sending::Carried;
 use wdt_tool::Status;
 use wdt_tree::Untold;
 use wdt_units::ToWrite;
@@ -69,7 +70,17 @@ where
 }
 
 // Says what went wrong in a send.
-fn explain_send<R: Net<Listener = TcpListener, Stream = TcpStream> + Files + AllocGlobal + Clock + Eprint + Clone + Drop, D, A>(
+fn explain_send<
+    R: Net<Listener = TcpListener, Stream = TcpStream>
+        + Files
+        + AllocGlobal
+        + Clock
+        + Eprint
+        + Clone
+        + Drop,
+    D,
+    A,
+>(
     rt: &R,
     alloc: Global,
     carried: &Carried<FolderSource<R>, D, TcpDial<R, Untold>, A>,
@@ -152,7 +163,17 @@ where
 }
 
 // Says what went wrong in a receiver.
-fn explain_recv<R: Net<Listener = TcpListener, Stream = TcpStream> + Files + AllocGlobal + Clock + Wait + Eprint + Clone + Drop, C>(
+fn explain_recv<
+    R: Net<Listener = TcpListener, Stream = TcpStream>
+        + Files
+        + AllocGlobal
+        + Clock
+        + Wait
+        + Eprint
+        + Clone
+        + Drop,
+    C,
+>(
     rt: &R,
     alloc: Global,
     carried: &Carried<FolderSource<R>, FolderDepot<R>, C, TcpAccept<R, Untold>>,

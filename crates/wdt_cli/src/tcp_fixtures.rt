@@ -3,13 +3,14 @@ ghost use Rattle.std.specs.Prelude.{◌≤◌, ◌+◌, ◌^◌, IfSome, map, st
 ghost use Rattle.wdt_words.specs.Words.{transfer_of};
 ghost use Rattle.wdt_cli.specs.Carried.{IsServed};
 
-use crate::carry::{Carried, carry};
+use crate::carry::carry;
 use crate::fixtures::{Listed, sources_of, texts_of};
 use std::alloc::{AllocError, Global};
 use std::process;
 use std::test::Fail;
 use wdt_depot::MemDepot;
 use wdt_net::{TcpAccept, TcpDial, tcp_accepts, tcp_dials};
+use wdt_sending::Carried;
 use wdt_source::MemSource;
 use wdt_tool::Status;
 use wdt_tree::Untold;

@@ -1,9 +1,8 @@
 //! What went wrong, in a line for a person.
 use crate::misreading::explain_words;
 use std::alloc::Global;
-use std::fmt;
-use std::io;
 use std::rt::Files;
+use std::{fmt, io};
 use wdt_folder::{Fault, FolderSource, OneLine};
 use wdt_sender_fsm::RefusedKind;
 use wdt_tool::Status;

@@ -23,13 +23,7 @@ pub fn send_all<
     N: Run + Send + Sync,
     S: Source + Send + Sync + Drop,
     C: Dial<N> + Send + Sync + Drop,
->(
-    rt: &R,
-    alloc: Global,
-    sending: Sending,
-    sources: Vec<S>,
-    dialers: Vec<C>,
-) -> Sent<S, C>
+>(rt: &R, alloc: Global, sending: Sending, sources: Vec<S>, dialers: Vec<C>) -> Sent<S, C>
 where
     C::L: Send,
     requires may { MayBegin N.told sending.manifest sending.lanes sending.block }

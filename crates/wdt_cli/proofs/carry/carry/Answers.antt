@@ -1,4 +1,4 @@
-use Rattle.wdt_cli.proofs.Early.{none_received, none_sent}
+use Rattle.wdt_sending.proofs.ForCallers.{none_received, none_sent}
 use Rattle.wdt_cli.proofs.carry.carry.Goals as goal
 
 pub returns-in-None-clause-sender : goal.returns-in-None-clause-sender

@@ -2,12 +2,13 @@ use Rattle.std.proofs.Common.{◌≡◌, ℕ, List, [], length, Option, Some, If
 use Rattle.wdt_sender_fsm.specs.declared.answers.RefusedKind.{RefusedKind}
 use Rattle.wdt_tool.specs.declared.status.Status.TheVariants.{DiskFault, SourceFault, Refused}
 use Rattle.wdt_words.specs.declared.command.Transfer.{Transfer}
-use Rattle.wdt_cli.specs.Carried.{IsServed, KeepsApart, first_told, stored_run}
-use Rattle.wdt_cli.specs.Causes.{IsTransferCause}
+use Rattle.wdt_sending.specs.Causes.{IsTransferCause}
+use Rattle.wdt_sending.specs.Told.{first_told}
+use Rattle.wdt_cli.specs.Carried.{IsServed, KeepsApart, stored_run}
 use Rattle.wdt_cli.specs.Leaves.{LeavesDepot}
 use Rattle.wdt_cli.proofs.Causes.{completes}
+use Rattle.wdt_cli.proofs.Depots.{unused_depot}
 use Rattle.wdt_cli.proofs.ReceivedAlone.{no_sources, none_back}
-use Rattle.wdt_cli.proofs.SentAlone.{unused_depot}
 use Rattle.wdt_cli.proofs.carry.run.Goals as goal
 
 -- ---- a copy

@@ -3,12 +3,13 @@ use Rattle.wdt_units.specs.Counts.{Rises}
 use Rattle.wdt_tool.specs.Refusals.{IsLogCause}
 use Rattle.wdt_tool.specs.declared.status.Status.{Status}
 use Rattle.wdt_tool.specs.declared.status.Status.TheVariants.{Done, DiskFault, OutFault, Refused, Usage}
+use Rattle.wdt_sending.specs.Causes.{BothEnded}
+use Rattle.wdt_sending.proofs.ForCallers.{EndsFor, early_histories, ended_put, put_as, put_histories, put_links, put_sources}
 use Rattle.wdt_cli.proofs.Depots.{depot_left}
-use Rattle.wdt_cli.proofs.Early.{EndsFor, early_depot, early_histories, unopened_for, unopened_keeps}
-use Rattle.wdt_cli.specs.Causes.{BothEnded}
+use Rattle.wdt_cli.proofs.Early.{early_depot, unopened_for, unopened_keeps}
 use Rattle.wdt_cli.proofs.Ends.{both_or, ends_of, not_out, not_usage}
 use Rattle.wdt_cli.proofs.Left.{histories_left, links_left, sources_left}
-use Rattle.wdt_cli.proofs.Puts.{ended_put, put_as, put_depot, put_histories, put_links, put_sources}
+use Rattle.wdt_cli.proofs.Puts.{put_depot}
 use Rattle.wdt_cli.proofs.Refusals.{refused_left}
 use Rattle.wdt_cli.proofs.copy_run.copy_files.Goals as goal
 

@@ -3,10 +3,10 @@ use Rattle.wdt_tool.specs.Refusals.{IsListingCause}
 use Rattle.wdt_tool.specs.declared.status.Status.{Status}
 use Rattle.wdt_tool.specs.declared.status.Status.TheVariants.{Done, DiskFault, OutFault, SourceFault}
 use Rattle.wdt_sending.specs.Counted.{SomeRose}
-use Rattle.wdt_cli.specs.Carried.{first_told}
-use Rattle.wdt_cli.proofs.Early.{EndsFor, early_depot, early_histories, unlisted_for, untouched_keeps}
+use Rattle.wdt_sending.specs.Told.{first_told}
+use Rattle.wdt_sending.proofs.ForCallers.{EndsFor, early_histories, unlisted_for, asked_back, left_behind}
+use Rattle.wdt_cli.proofs.Early.{early_depot, untouched_keeps}
 use Rattle.wdt_cli.proofs.Handed.{copy_cause, may_carry, may_open}
-use Rattle.wdt_cli.proofs.Sources.{asked_back, left_behind}
 use Rattle.wdt_cli.proofs.copy_run.copy_tree.Goals as goal
 
 -- ---- the tree was listed

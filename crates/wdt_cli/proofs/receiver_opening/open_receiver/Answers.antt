@@ -3,8 +3,8 @@ use Rattle.wdt_dock.specs.DockView.{DockView}
 use Rattle.wdt_recv_lanes.proofs.Opening.{opened_images, opened_kept}
 use Rattle.wdt_recv_lanes.specs.Kept.{IsKept}
 use Rattle.wdt_tool.specs.declared.fail.CommandFail.TheVariants.{NoMemory}
-use Rattle.wdt_cli.proofs.Opening.{cause_of, fits_for, good_for, had_of, stands}
 use Rattle.wdt_cli.specs.Copied.{IsOpeningCause, IsUnopened}
+use Rattle.wdt_cli.proofs.Opening.{cause_of, fits_for, good_for, had_of, stands}
 use Rattle.wdt_cli.proofs.receiver_opening.open_receiver.Goals as goal
 
 pub of-dock-requires : goal.of-dock-requires

@@ -6,7 +6,6 @@ use Rattle.wdt_units.specs.declared.numbers.Lane.{Lane}
 use Rattle.wdt_units.specs.declared.numbers.LaneSet.{LaneSet}
 use Rattle.wdt_tree.specs.Told.{ToldRun}
 use Rattle.wdt_tree.specs.declared.entry.Entry.{Entry}
-use Rattle.wdt_depot.specs.State.{State}
 use Rattle.wdt_sender_fsm.specs.declared.answers.RefusedKind.{RefusedKind}
 use Rattle.wdt_sender_fsm.specs.declared.events.SendEvent.{SendEvent}
 use Rattle.wdt_sender_fsm.specs.declared.events.SendEvent.TheVariants as sends
@@ -19,16 +18,15 @@ use Rattle.wdt_lanes.specs.Seats.{SameSource}
 use Rattle.wdt_yard.specs.Turns.{IsLegalOfSome}
 use Rattle.wdt_tool.specs.declared.status.Status.{Status}
 use Rattle.wdt_tool.specs.declared.status.Status.TheVariants.{Usage, SourceFault, DiskFault, LinkFault, Peer, Aborted, Refused, OutFault, NoMemory}
+use Rattle.wdt_sending.specs.Causes.{HasAbort, HasPeer, IsPlanCause, SenderRan}
 use Rattle.wdt_sending.specs.Counted.{SomeRose}
 use Rattle.wdt_sending.specs.Judging.{has_some}
+use Rattle.wdt_sending.specs.Leaves.{LeavesHistories, LeavesLinks, LeavesSources, LinkRose}
 use Rattle.wdt_sending.specs.Sending.{MetAtRest, MetBy, SenderEnds, SenderTaken, begun_of}
-use Rattle.wdt_sending.proofs.ForCallers.{IsAnswerOf, answer_of, peer_for}
-use Rattle.wdt_cli.specs.Causes.{HasAbort, HasPeer, IsPlanCause, SenderRan}
-use Rattle.wdt_cli.specs.Leaves.{LeavesDepot, LeavesHistories, LeavesLinks, LeavesSources, LinkRose}
-use Rattle.wdt_cli.proofs.Early.{none_received}
-use Rattle.wdt_cli.proofs.Ends.{sender_ran}
-use Rattle.wdt_cli.proofs.Left.{NotesAborts, NotesPeers, sent_entry}
-use Rattle.wdt_cli.proofs.Refusals.{plan_cause}
+use Rattle.wdt_sending.proofs.Early.{none_received}
+use Rattle.wdt_sending.proofs.Entries.{NotesAborts, NotesPeers, sent_entry}
+use Rattle.wdt_sending.proofs.Judged.{IsAnswerOf, answer_of, peer_for}
+use Rattle.wdt_sending.proofs.Refusals.{plan_cause}
 
 -- the answer that a status comes of
 answer_for : {run : Option ToldRun} {begun : Begun} {lost cut alarmed : LaneSet} {h : List SendEvent} {status : Status} (t : SenderTaken run begun lost cut alarmed h status) (s : Status) → status ≡ s
@@ -128,25 +126,23 @@ no_out_sent {status = status} (inl none) is = never (is_starved status OutFault 
   never e = cc
 no_out_sent (inr t) is = answer_for t OutFault is
 
--- how it ended, of so many files, unless memory ran out
+-- how it ended, of so many files
+pub sender_ran : {run : Option ToldRun} {begun : Begun} {lost cut alarmed : LaneSet} {h : List SendEvent} {status : Status} (t : SenderTaken run begun lost cut alarmed h status) (files : ℕ)
+    → files ≡ length begun.manifest → SenderRan run files h status
+sender_ran {begun = begun} {lost = lost} {cut = cut} {alarmed = alarmed} t files counted =
+    record {
+      sent = t.sent;
+      is_sender = t.is_sender;
+      begun = begun;
+      kept = t.kept;
+      sent_is = t.noted;
+      counted = counted ∙ ap length (sym t.kept.manifest);
+      met = record { lost = has_some lost; cut = has_some cut; alarmed = has_some alarmed };
+      judged = t.judged;
+    }
+
+-- so it did unless memory ran out
 pub sent_or : {run : Option ToldRun} {begun : Begun} {lost cut alarmed : LaneSet} {h : List SendEvent} {status : Status} (files : ℕ) → files ≡ length begun.manifest
     → SenderEnds run begun lost cut alarmed h status → (status ≡ NoMemory) ⊎ SenderRan run files h status
 sent_or files counted (inl none) = inl none.0
 sent_or files counted (inr t) = inr (sender_ran t files counted)
-
--- ---- what a send has no use for
-
--- the depot
-pub unused_depot : {D : Type 0} (state : D → State) (depot : D) (status : Status) (after : Option D) → after ≡ Some depot → (state depot).spots ≡ [] → (status ≡ DiskFault → ⊥)
-    → LeavesDepot state None (state depot) status after
-unused_depot {D} state depot status after is spots never =
-    subst (λ (x : Option D). LeavesDepot state None (state depot) status x) (sym is) record {
-      landed = λ done. tt;
-      unwritten = λ out. tt;
-      good = tt;
-      images = tt;
-      others = tt;
-      slips = tt;
-      spots = spots;
-      fault = λ e. absurd (never e);
-    }

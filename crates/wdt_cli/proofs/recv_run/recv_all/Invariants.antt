@@ -1,5 +1,5 @@
 use Rattle.wdt_recv_lanes.specs.Kept.{started_of}
-use Rattle.wdt_cli.proofs.receiving.recv_all.Given as goal
+use Rattle.wdt_cli.proofs.recv_run.recv_all.Given as goal
 
 -- what the depot is as it is handed in
 abbrev pub ghosts-recv_since-J-Start : goal.ghosts-recv_since-J-Start

@@ -2,9 +2,9 @@
 ghost use Rattle.std.specs.Prelude.{◌≡◌, ◌≢◌, ◌++◌, IfOk, OnErr, map};
 ghost use Rattle.wdt_report.specs.Lines.{copy_text, recv_text, send_text};
 ghost use Rattle.wdt_tool.specs.Lines.{last_line};
-ghost use Rattle.wdt_cli.specs.Printed.{IsPut, PrintsRun, PrintsText, report_text};
+ghost use Rattle.wdt_sending.specs.Printed.{IsPut, PrintsRun, PrintsText, report_text};
 
-use crate::carry::Carried;
+use crate::carried::Carried;
 use std::alloc::{AllocError, Global};
 use wdt_receiver_fsm::RecvEvent;
 use wdt_report::{Lines, copy_lines, recv_lines, send_lines};
@@ -49,11 +49,11 @@ pub fn put_report<S, D, C, A, O: Sink>(
         dialers,
         acceptors,
     } = carried;
-    let Told {
+    let Reported {
         text,
         sender,
         receiver,
-    } = told(alloc, report, sender, receiver, &status);
+    } = report_of(alloc, report, sender, receiver, &status);
     let status = put_text(text, status, out);
     Carried {
         status,
@@ -67,32 +67,32 @@ pub fn put_report<S, D, C, A, O: Sink>(
 }
 
 // What is to be put, where there was memory for it, and the histories of which it tells.
-struct Told {
+struct Reported {
     text: Result<Vec<u8>, AllocError>,
     sender: Vec<SendEvent>,
     receiver: Vec<RecvEvent>,
 }
 
 // The report and the last line.
-fn told(
+fn report_of(
     alloc: Global,
     report: Report,
     sender: Vec<SendEvent>,
     receiver: Vec<RecvEvent>,
     status: &Status,
-) -> Told
+) -> Reported
     ensures text { IfOk result.text (λ text. text.items ≡ report_text report sender.items receiver.items status.now) }
     ensures sender { result.sender ≡ sender }
     ensures receiver { result.receiver ≡ receiver }
 {
     match report {
-        Report::Copy(files) => copy_told(alloc, files, sender, receiver, status),
-        Report::Send(files) => Told {
+        Report::Copy(files) => copy_report(alloc, files, sender, receiver, status),
+        Report::Send(files) => Reported {
             text: send_text(alloc, files, &sender, status),
             sender,
             receiver,
         },
-        Report::Recv => Told {
+        Report::Recv => Reported {
             text: recv_text(alloc, &receiver, status),
             sender,
             receiver,
@@ -101,13 +101,13 @@ fn told(
 }
 
 // Those of a copy, which has one session.
-fn copy_told(
+fn copy_report(
     alloc: Global,
     files: u32,
     sender: Vec<SendEvent>,
     receiver: Vec<RecvEvent>,
     status: &Status,
-) -> Told
+) -> Reported
     ensures text { IfOk result.text (λ text. text.items ≡ report_text (Report.Copy files) sender.items receiver.items status.now) }
     ensures sender { result.sender ≡ sender }
     ensures receiver { result.receiver ≡ receiver }
@@ -117,7 +117,7 @@ fn copy_told(
     let text = copy_text(alloc, files, &sent, &received, status);
     let [sender] = sent;
     let [receiver] = received;
-    Told {
+    Reported {
         text,
         sender,
         receiver,
@@ -153,11 +153,7 @@ fn send_text(
     with_last(alloc, lines, status)
 }
 
-fn recv_text(
-    alloc: Global,
-    received: &[RecvEvent],
-    status: &Status,
-) -> Result<Vec<u8>, AllocError>
+fn recv_text(alloc: Global, received: &[RecvEvent], status: &Status) -> Result<Vec<u8>, AllocError>
     ensures { IfOk result (λ text. text.items ≡ recv_text received.now ++ last_line status.now) }
 {
     let Ok(lines) = recv_lines(alloc, received) else {

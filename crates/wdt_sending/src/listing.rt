@@ -6,10 +6,9 @@ ghost use Rattle.wdt_tree.specs.Shown.{entry_of_file};
 ghost use Rattle.wdt_lanes.specs.LaneLists.{EachLane};
 ghost use Rattle.wdt_tool.specs.Causes.{IsListedFail};
 ghost use Rattle.wdt_sending.specs.Counted.{SomeRose};
-ghost use Rattle.wdt_cli.specs.Carried.{first_told};
+ghost use Rattle.wdt_sending.specs.Told.{first_told};
 
-use crate::carry::Carried;
-use crate::copying::Parts;
+use crate::carried::{Carried, Parts};
 use std::alloc::Global;
 use wdt_source::Source;
 use wdt_tool::{CommandFail, Status, listed};
@@ -30,7 +29,11 @@ pub fn list_first<S: Source>(alloc: Global, sources: &mut Vec<S>) -> Result<Mani
 }
 
 /// What is left where no lane ran.
-pub fn unrun<S, D, C, A>(alloc: Global, status: Status, parts: Parts<S, D, C, A>) -> Carried<S, D, C, A>
+pub fn unrun<S, D, C, A>(
+    alloc: Global,
+    status: Status,
+    parts: Parts<S, D, C, A>,
+) -> Carried<S, D, C, A>
     ensures status { result.status ≡ status }
     ensures sender { result.sender.items ≡ [] }
     ensures receiver { result.receiver.items ≡ [] }

@@ -5,9 +5,9 @@ use Rattle.wdt_tree.specs.Listing.{Orders}
 use Rattle.wdt_tree.specs.Shown.{entry_of_file}
 use Rattle.wdt_source.specs.Told.{IsListed}
 use Rattle.wdt_tool.specs.declared.fail.CommandFail.{CommandFail}
-use Rattle.wdt_cli.specs.Carried.{first_told}
-use Rattle.wdt_cli.proofs.Listing.{tree_listed}
-use Rattle.wdt_cli.proofs.listing.list_first.Goals as goal
+use Rattle.wdt_sending.specs.Told.{first_told}
+use Rattle.wdt_sending.proofs.Listed.{tree_listed}
+use Rattle.wdt_sending.proofs.listing.list_first.Goals as goal
 
 -- what the first source lists is the tree that it tells
 first_listed : {S : Type 0} (told : S → Option (List File)) (listing : S → Option (List Entry)) → ((s : S) → IfSome (told s) (λ files. IsTrue (is_tree files)))

@@ -10,9 +10,9 @@ use Rattle.wdt_tool.specs.declared.status.Status.{Status}
 use Rattle.wdt_tool.specs.declared.status.Status.TheVariants.{Done, Usage, SourceFault, DiskFault, LinkFault, Peer, Aborted, Refused, OutFault, NoMemory}
 use Rattle.wdt_words.specs.declared.command.Transfer.{Transfer}
 use Rattle.wdt_words.specs.declared.command.Transfer.TheVariants.{Copy, Send, Recv}
-use Rattle.wdt_cli.specs.Causes.{BothEnded, ReceiverRan, SenderRan}
-use Rattle.wdt_cli.specs.declared.reporting.Report.{Report}
-use Rattle.wdt_cli.specs.declared.reporting.Report.TheVariants as reports
+use Rattle.wdt_sending.specs.Causes.{BothEnded, ReceiverRan, SenderRan}
+use Rattle.wdt_sending.specs.declared.reporting.Report.{Report}
+use Rattle.wdt_sending.specs.declared.reporting.Report.TheVariants as reports
 
 -- The report of a run, by the histories of its ends: of a copy of so many files, of a sender of so many, or of a
 -- receiver.
@@ -56,9 +56,9 @@ IsPut status (Aborted code) before after = status ≡ Aborted code
 IsPut status (Refused kind) before after = status ≡ Refused kind
 
 -- The ends of a run came to a status, by so many files, unless memory ran out, and the sink got the run's report.
-pub record EndsAs (ended : ℕ → Status → Type 0) (report : ℕ → Report) (sender : List SendEvent) (receiver : List RecvEvent) (status : Status) (before after : ℕ) (old new : Option (List ℕ)) : Type 0 where
+pub record EndsAs (ends : ℕ → Status → Type 0) (report : ℕ → Report) (sender : List SendEvent) (receiver : List RecvEvent) (status : Status) (before after : ℕ) (old new : Option (List ℕ)) : Type 0 where
   pub files : ℕ
-  pub ended : (status ≡ NoMemory) ⊎ ended files (before_lines status)
+  pub ended : (status ≡ NoMemory) ⊎ ends files (before_lines status)
   pub prints : PrintsRun (report files) sender receiver status before after old new
 
 -- both ends of a copy ran

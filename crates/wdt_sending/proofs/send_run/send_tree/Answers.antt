@@ -1,13 +1,13 @@
-use Rattle.std.proofs.Common.{◌≡◌, subst}
+use Rattle.std.proofs.Common.{◌≡◌, inr, subst}
 use Rattle.wdt_tool.specs.Refusals.{IsListingCause}
 use Rattle.wdt_tool.specs.declared.status.Status.{Status}
 use Rattle.wdt_tool.specs.declared.status.Status.TheVariants.{DiskFault}
 use Rattle.wdt_sending.specs.Counted.{SomeRose}
-use Rattle.wdt_cli.specs.Carried.{first_told}
-use Rattle.wdt_cli.proofs.Early.{EndsFor, early_histories, unlisted_for}
-use Rattle.wdt_cli.proofs.Handed.{may_begin, may_send}
-use Rattle.wdt_cli.proofs.Sources.{asked_back, left_behind}
-use Rattle.wdt_cli.proofs.sending.send_tree.Goals as goal
+use Rattle.wdt_sending.specs.Told.{first_told}
+use Rattle.wdt_sending.proofs.Early.{EndsFor, early_histories, unlisted_for}
+use Rattle.wdt_sending.proofs.Handed.{may_begin, may_send}
+use Rattle.wdt_sending.proofs.Sources.{asked_back, left_behind}
+use Rattle.wdt_sending.proofs.send_run.send_tree.Goals as goal
 
 -- ---- the tree was listed
 
@@ -23,6 +23,9 @@ send_files-requires-clause-over g c κs within =
 
 pub returns-in-Ok-clause-sources : goal.returns-in-Ok-clause-sources
 returns-in-Ok-clause-sources g c = left_behind c.args.parts.sources.items c.list_first.ensures.back c.list_first.ensures.later c.send_files.ensures.sources
+
+pub returns-in-Ok-clause-refused : goal.returns-in-Ok-clause-refused
+returns-in-Ok-clause-refused g c = λ kind is. inr (c.send_files.ensures.refused kind is)
 
 -- ---- it wasn't
 

@@ -8,7 +8,7 @@ use Rattle.wdt_lanes.specs.LaneLists.{EachLane}
 use Rattle.wdt_lanes.specs.Seats.{SameSource}
 use Rattle.wdt_tool.specs.declared.status.Status.{Status}
 use Rattle.wdt_sending.specs.Counted.{SomeRose}
-use Rattle.wdt_cli.specs.Leaves.{LeavesSources}
+use Rattle.wdt_sending.specs.Leaves.{LeavesSources}
 
 -- each tells what it told and wasn't asked for what it doesn't have
 abbrev pub EachAsked : {S : Type 0} → (S → Option (List File)) → (S → ℕ) → List S → List S → Type 0
