@@ -243,14 +243,14 @@ fn open_ends<
         block,
         batch,
     } = opening;
+    let Ok(far) = rt.clone() else {
+        return Err((CommandFail::NoMemory, depot));
+    };
     let sending = Sending {
         manifest,
         lanes,
         block,
         session: SESSION,
-    };
-    let Ok(far) = rt.clone() else {
-        return Err((CommandFail::NoMemory, depot));
     };
     let Ok(sender) = open_sender::<R, N, B, L>(rt, alloc, sending, sent) else {
         return Err((CommandFail::NoMemory, depot));

@@ -49,6 +49,7 @@ pub fn send_folder<
 ) -> Result<Status, AllocError>
 where
     R::File: FileExt + Send + Sync,
+    R::Dir: Send + Sync,
     // The words are a send over so many lanes, and each has a port.
     requires served { IfSome (transfer_of (map string_bytes words.now)) (λ transfer. IsServed transfer lanes lanes 0) }
     requires ports { port + lanes ≤ 2 ^ 16 }
@@ -65,44 +66,14 @@ where
     let carried = carry::<R, Untold, _, _, _, _, _>(
         rt, alloc, words, sources, unused, dialers, nobody, out,
     );
-    explain_send(rt, alloc, &carried, words, out.sink().fault());
-    Ok(carried.status)
-}
-
-// Says what went wrong in a send.
-fn explain_send<
-    R: Net<Listener = TcpListener, Stream = TcpStream>
-        + Files
-        + AllocGlobal
-        + Clock
-        + Eprint
-        + Clone
-        + Drop,
-    D,
-    A,
->(
-    rt: &R,
-    alloc: Global,
-    carried: &Carried<FolderSource<R>, D, TcpDial<R, Untold>, A>,
-    words: &[String],
-    out: Option<&io::Error>,
-)
-where
-    R::File: FileExt,
-{
-    let Carried {
-        status,
-        sources,
-        dialers,
-        ..
-    } = carried;
     let failed = Failed {
-        source: failed_of(sources),
+        source: failed_of(&carried.sources),
         disk: None,
-        link: dial_fault(dialers),
-        out,
+        link: dial_fault(&carried.dialers),
+        out: out.sink().fault(),
     };
-    let _ = explain(rt, alloc, status, words, &failed);
+    let _ = explain(rt, alloc, &carried.status, words, &failed);
+    Ok(carried.status)
 }
 
 // The fault of the first dialer that has one.
@@ -158,48 +129,18 @@ where
     let carried = carry::<R, Untold, _, _, _, _, _>(
         rt, alloc, words, sources, depot, nobody, acceptors, out,
     );
-    explain_recv(rt, alloc, &carried, words, out.sink().fault());
-    Ok(carried.status)
-}
-
-// Says what went wrong in a receiver.
-fn explain_recv<
-    R: Net<Listener = TcpListener, Stream = TcpStream>
-        + Files
-        + AllocGlobal
-        + Clock
-        + Wait
-        + Eprint
-        + Clone
-        + Drop,
-    C,
->(
-    rt: &R,
-    alloc: Global,
-    carried: &Carried<FolderSource<R>, FolderDepot<R>, C, TcpAccept<R, Untold>>,
-    words: &[String],
-    out: Option<&io::Error>,
-)
-where
-    R::File: FileExt,
-{
-    let Carried {
-        status,
-        depot,
-        acceptors,
-        ..
-    } = carried;
-    let disk = match depot {
+    let disk = match &carried.depot {
         Some(depot) => depot.fault(),
         None => None,
     };
-    let failed: Failed<'_, R, NetFault<'_>> = Failed {
+    let failed = Failed::<R, NetFault<'_>> {
         source: None,
         disk,
-        link: accept_fault(acceptors),
-        out,
+        link: accept_fault(&carried.acceptors),
+        out: out.sink().fault(),
     };
-    let _ = explain(rt, alloc, status, words, &failed);
+    let _ = explain(rt, alloc, &carried.status, words, &failed);
+    Ok(carried.status)
 }
 
 // The fault of the first acceptor that has one.
