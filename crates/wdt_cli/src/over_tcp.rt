@@ -14,7 +14,7 @@ use std::sync::Wait;
 use std::thread::Threads;
 use wdt_console::{Failed, explain};
 use wdt_depot::MemDepot;
-use wdt_folder::{FolderDepot, FolderSource};
+use wdt_folder::{Fault, FolderDepot, FolderSource};
 use wdt_net::{NetFault, TcpAccept, TcpDial, tcp_accepts, tcp_dials};
 use wdt_progress::Cleared;
 use wdt_sending::Carried;
@@ -129,18 +129,27 @@ where
     let carried = carry::<R, Untold, _, _, _, _, _>(
         rt, alloc, words, sources, depot, nobody, acceptors, out,
     );
-    let disk = match &carried.depot {
-        Some(depot) => depot.fault(),
-        None => None,
-    };
-    let failed = Failed::<R, NetFault<'_>> {
-        source: None,
-        disk,
+    let failed = Failed {
+        source: failed_of(&carried.sources),
+        disk: disk_fault(&carried.depot),
         link: accept_fault(&carried.acceptors),
         out: out.sink().fault(),
     };
     let _ = explain(rt, alloc, &carried.status, words, &failed);
     Ok(carried.status)
+}
+
+// The fault of the destination, where it came back.
+fn disk_fault<R: Files + AllocGlobal + Clone + Drop>(
+    depot: &Option<FolderDepot<R>>,
+) -> Option<&Fault>
+where
+    R::File: FileExt,
+{
+    match depot {
+        Some(depot) => depot.fault(),
+        None => None,
+    }
 }
 
 // The fault of the first acceptor that has one.
