@@ -17,7 +17,7 @@ use wdt_sending::Carried;
 use wdt_source::MemSource;
 use wdt_tool::Status;
 use wdt_tree::{Plain, Untold};
-use wdt_units::{Lane, MemSink, Name};
+use wdt_units::{Lane, MemSink, Name, NoMemory};
 use wdt_words::{Transfer, transfer_of};
 
 /// A file of a tree: its path, and its bytes.
@@ -50,15 +50,18 @@ pub const NOTHING: Failing<'static> = Failing {
     held: None,
 };
 
-fn plain(alloc: Global, path: &str, bytes: &[u8]) -> Result<Plain, Fail> {
+fn plain(alloc: Global, path: &str, bytes: &[u8]) -> Result<Plain, NoMemory> {
+    let Ok(path) = Name::read(alloc, path.as_bytes()) else {
+        return Err(NoMemory);
+    };
     Ok(Plain {
-        path: Name::read(alloc, path.as_bytes())?,
+        path,
         stamp: 0,
         bytes: Vec::from_slice(alloc, bytes)?,
     })
 }
 
-fn source_of(alloc: Global, files: &[Listed<'_>], fails: &[u32]) -> Result<MemSource, Fail> {
+fn source_of(alloc: Global, files: &[Listed<'_>], fails: &[u32]) -> Result<MemSource, NoMemory> {
     let mut listed = Vec::new(alloc);
     for (path, bytes) in files {
         listed.push(plain(alloc, path, bytes)?)?;
@@ -72,7 +75,7 @@ pub fn sources_of(
     lanes: u8,
     files: &[Listed<'_>],
     fails: &[u32],
-) -> Result<Vec<MemSource>, Fail>
+) -> Result<Vec<MemSource>, NoMemory>
     ensures { IfOk result (λ sources. length sources.items ≡ lanes) }
 {
     let mut sources = Vec::new(alloc);
@@ -100,7 +103,7 @@ pub fn copy_over_pipes<R: Threads + Wait + Clone + Drop + Send + Sync>(
 }
 
 /// The words as a process is started with them.
-pub fn texts_of(alloc: Global, words: &[&str]) -> Result<Vec<String>, Fail> {
+pub fn texts_of(alloc: Global, words: &[&str]) -> Result<Vec<String>, NoMemory> {
     let mut texts = Vec::new(alloc);
     for word in words {
         texts.push(String::from_str(alloc, word)?)?;

@@ -6,15 +6,18 @@ ghost use Rattle.wdt_cli.specs.Carried.{IsServed};
 use crate::carry::carry;
 use crate::fixtures::{Listed, sources_of, texts_of};
 use std::alloc::{AllocError, Global};
+use std::net::{Net, TcpListener, TcpStream};
 use std::process;
-use std::test::Fail;
+use std::sync::Wait;
+use std::thread::Threads;
+use std::time::Clock;
 use wdt_depot::MemDepot;
 use wdt_net::{TcpAccept, TcpDial, tcp_accepts, tcp_dials};
 use wdt_sending::Carried;
 use wdt_source::MemSource;
 use wdt_tool::Status;
 use wdt_tree::Untold;
-use wdt_units::MemSink;
+use wdt_units::{MemSink, NoMemory};
 use wdt_words::{Transfer, transfer_of};
 
 /// What an end leaves, and the lines that it put.
@@ -31,39 +34,54 @@ pub fn own_host(rt: &HostRuntime) -> Result<String, AllocError> {
     format!(in rt.alloc(); "127.{}.{middle}.{low}", high / 4 + 64)
 }
 
-/// Sends these files as the words of a send say, to a host.
-pub fn send_to(
-    rt: &HostRuntime,
-    words: &[&str],
-    host: &str,
-    files: &[Listed<'_>],
-) -> Result<Ended, Fail> {
-    let texts = texts_of(rt.alloc(), words)?;
+/// Sends these files as the words of a send say, to a host. None where they are no send, or memory ran out.
+pub fn send_to<
+    R: Threads
+        + Wait
+        + Net<Listener = TcpListener, Stream = TcpStream>
+        + Clock
+        + Clone
+        + Drop
+        + Send
+        + Sync,
+>(rt: &R, alloc: Global, words: &[&str], host: &str, files: &[Listed<'_>]) -> Option<Ended> {
+    let texts = texts_of(alloc, words).ok()?;
     match transfer_of(&texts) {
-        Some(Transfer::Send { port, lanes, .. }) => send(rt, &texts, host, port, lanes, files),
-        _ => Err(Fail::from("the words are no send")),
+        Some(Transfer::Send { port, lanes, .. }) => send(
+            rt, alloc, &texts, host, port, lanes, files,
+        ).ok(),
+        _ => None,
     }
 }
 
 // The same of words that are one.
-fn send(
-    rt: &HostRuntime,
+fn send<
+    R: Threads
+        + Wait
+        + Net<Listener = TcpListener, Stream = TcpStream>
+        + Clock
+        + Clone
+        + Drop
+        + Send
+        + Sync,
+>(
+    rt: &R,
+    alloc: Global,
     words: &[String],
     host: &str,
     port: u16,
     lanes: u8,
     files: &[Listed<'_>],
-) -> Result<Ended, Fail>
+) -> Result<Ended, NoMemory>
     requires served { IfSome (transfer_of (map string_bytes words.now)) (λ transfer. IsServed transfer lanes lanes 0) }
     requires ports { port + lanes ≤ 2 ^ 16 }
 {
-    let alloc = rt.alloc();
     let sources = sources_of(alloc, lanes, files, &[])?;
-    let dialers = tcp_dials::<HostRuntime, Untold>(rt, alloc, host, port, lanes)?;
+    let dialers = tcp_dials::<R, Untold>(rt, alloc, host, port, lanes)?;
     let depot = MemDepot::of(alloc, Vec::new(alloc), Vec::new(alloc))?;
-    let nobody: Vec<TcpAccept<HostRuntime, Untold>> = Vec::new(alloc);
+    let nobody: Vec<TcpAccept<R, Untold>> = Vec::new(alloc);
     let mut out = MemSink::of(alloc, Vec::new(alloc));
-    let carried = carry::<HostRuntime, Untold, _, _, _, _, _>(
+    let carried = carry::<R, Untold, _, _, _, _, _>(
         rt, alloc, words, sources, depot, dialers, nobody, &mut out,
     );
     let Carried { status, depot, .. } = carried;
@@ -75,33 +93,54 @@ fn send(
     })
 }
 
-/// Receives into memory as the words of a receiver say, at a host.
-pub fn receive_at(rt: &HostRuntime, words: &[&str], host: &str) -> Result<Ended, Fail> {
-    let texts = texts_of(rt.alloc(), words)?;
+/// Receives into memory as the words of a receiver say, at a host. None where they are no receiver, or
+/// memory ran out.
+pub fn receive_at<
+    R: Threads
+        + Wait
+        + Net<Listener = TcpListener, Stream = TcpStream>
+        + Clock
+        + Clone
+        + Drop
+        + Send
+        + Sync,
+>(rt: &R, alloc: Global, words: &[&str], host: &str) -> Option<Ended> {
+    let texts = texts_of(alloc, words).ok()?;
     match transfer_of(&texts) {
-        Some(Transfer::Recv { port, lanes, .. }) => receive(rt, &texts, host, port, lanes),
-        _ => Err(Fail::from("the words are no receiver")),
+        Some(Transfer::Recv { port, lanes, .. }) => receive(
+            rt, alloc, &texts, host, port, lanes,
+        ).ok(),
+        _ => None,
     }
 }
 
 // The same of words that are one.
-fn receive(
-    rt: &HostRuntime,
+fn receive<
+    R: Threads
+        + Wait
+        + Net<Listener = TcpListener, Stream = TcpStream>
+        + Clock
+        + Clone
+        + Drop
+        + Send
+        + Sync,
+>(
+    rt: &R,
+    alloc: Global,
     words: &[String],
     host: &str,
     port: u16,
     lanes: u8,
-) -> Result<Ended, Fail>
+) -> Result<Ended, NoMemory>
     requires served { IfSome (transfer_of (map string_bytes words.now)) (λ transfer. IsServed transfer 0 0 lanes) }
     requires ports { port + lanes ≤ 2 ^ 16 }
 {
-    let alloc = rt.alloc();
     let sources: Vec<MemSource> = Vec::new(alloc);
-    let nobody: Vec<TcpDial<HostRuntime, Untold>> = Vec::new(alloc);
-    let acceptors = tcp_accepts::<HostRuntime, Untold>(rt, alloc, host, port, lanes)?;
+    let nobody: Vec<TcpDial<R, Untold>> = Vec::new(alloc);
+    let acceptors = tcp_accepts::<R, Untold>(rt, alloc, host, port, lanes)?;
     let depot = MemDepot::of(alloc, Vec::new(alloc), Vec::new(alloc))?;
     let mut out = MemSink::of(alloc, Vec::new(alloc));
-    let carried = carry::<HostRuntime, Untold, _, _, _, _, _>(
+    let carried = carry::<R, Untold, _, _, _, _, _>(
         rt, alloc, words, sources, depot, nobody, acceptors, &mut out,
     );
     let Carried { status, depot, .. } = carried;

@@ -110,27 +110,33 @@ fn lanes_run_side_by_side(rt: HostRuntime) -> Result<(), Fail> {
     Ok(())
 }
 
+// What is sent over TCP, in blocks of two bytes.
+const SENT: [Listed<'static>; 3] = [("a", b"hi"), ("b/c", b"hello"), ("d", b"")];
+
+const SEND: [&str; 8] = [
+    "send", "SRC", "HOST", "7000", "--lanes", "2", "--block", "2",
+];
+
+const RECV: [&str; 6] = ["recv", "DST", "HOST", "7000", "--lanes", "2"];
+
 #[test]
 fn a_send_and_a_receiver_copy_over_tcp(rt: HostRuntime) -> Result<(), Fail> {
     let alloc = rt.alloc();
     let host = own_host(&rt)?;
-    let big = pattern(alloc, 7, 200_000)?;
-    let files: [Listed<'_>; 3] = [("a", b"hi"), ("b/c", &big), ("d", b"")];
-    let send = ["send", "SRC", "HOST", "7000", "--lanes", "2"];
-    let recv = ["recv", "DST", "HOST", "7000", "--lanes", "2"];
     let (sent, received) = thread::join(
         &rt,
-        || send_to(&rt, &send, host.as_str(), &files),
-        || receive_at(&rt, &recv, host.as_str()),
+        || send_to(&rt, alloc, &SEND, &host, &SENT),
+        || receive_at(&rt, alloc, &RECV, &host),
     );
-    let (sent, received) = (sent?, received?);
+    let sent = sent.ok_or("no sender")?;
+    let received = received.ok_or("no receiver")?;
     assert_eq!(rt; (sent.status.code(), received.status.code()), (0, 0));
-    let told = b"files 3\nblocks 3\nbytes 200002\nconnections 2\nrequeued 0\nok\n";
+    let told = b"files 3\nblocks 5\nbytes 7\nconnections 2\nrequeued 0\nok\n";
     assert_eq!(rt; sent.lines.as_slice(), told.as_slice());
-    let told = b"blocks 3\nbytes 200002\nconnections 2\nclosed 0\nok\n";
+    let told = b"blocks 5\nbytes 7\nconnections 2\nclosed 0\nok\n";
     assert_eq!(rt; received.lines.as_slice(), told.as_slice());
     let depot = received.depot.ok_or("no depot")?;
-    for (path, bytes) in &files {
+    for (path, bytes) in &SENT {
         let path = Name::read(alloc, path.as_bytes())?;
         assert!(rt; depot.shown(&path) == Some(*bytes));
     }
