@@ -71,6 +71,21 @@ where
     // couldn't be written.
     ensures landed { result.status ≡ Status.Done → IfSome (stored_run (transfer_of (map string_bytes words.now)) N.told) (λ run. LandsIn D.state run.tree result.depot) }
     ensures unwritten { result.status ≡ Status.OutFault → IfSome (stored_run (transfer_of (map string_bytes words.now)) N.told) (λ run. LandsIn D.state run.tree result.depot) }
+
+    // Each other status has its cause.
+    ensures usage { result.status ≡ Status.Usage ↔ (transfer_of (map string_bytes words.now) ≡ None) }
+    ensures source_fault { result.status ≡ Status.SourceFault → SomeRose S.faults sources.items result.sources.items }
+    ensures disk_fault { result.status ≡ Status.DiskFault → DepotRose D.state (D.state depot) result.depot }
+    ensures link_fault { result.status ≡ Status.LinkFault → SomeRose (λ c. capped (C.faults c)) dialers.items result.dialers.items ⊎ SomeRose (λ a. capped (A.faults a)) acceptors.items result.acceptors.items }
+    ensures peer { (kind : PeerKind) → result.status ≡ Status.Peer kind → HasPeer kind result.sender.items result.receiver.items }
+    ensures bad_frame { (at : ℕ) → result.status ≡ Status.Peer (PeerKind.BadFrame at)
+        → SomeRose (λ c. capped (C.alarms c)) dialers.items result.dialers.items ⊎ SomeRose (λ a. capped (A.alarms a)) acceptors.items result.acceptors.items }
+    ensures aborted { (code : ℕ) → result.status ≡ Status.Aborted code → HasAbort code result.sender.items result.receiver.items
+        × (SomeRose (λ c. capped (C.alarms c)) dialers.items result.dialers.items ⊎ SomeRose (λ a. capped (A.alarms a)) acceptors.items result.acceptors.items) }
+    ensures refused { (kind : RefusedKind) → result.status ≡ Status.Refused kind
+        → IfSome (transfer_of (map string_bytes words.now)) (λ transfer. IsTransferCause N.told transfer (first_told S.listing sources.items) (D.state depot).told kind) }
+    ensures out_fault { result.status ≡ Status.OutFault → Rises (O.faults out.old) (O.faults out.new) }
+
     // Whatever it answers, each image of the disk is good for the tree, as it was at each moment, inside each
     // write too, and for what was logged before; and every path that the tree doesn't have, but for the
     // receiver's own, reads as it did.
@@ -86,20 +101,6 @@ where
     ensures receiver { IsLegalBySome result.receiver.items }
     ensures ended { PrintsEarly result.sender.items result.receiver.items result.status (O.faults out.old) (O.faults out.new) (O.written out.old) (O.written out.new)
         ⊎ EndsWords (transfer_of (map string_bytes words.now)) N.told result.sender.items result.receiver.items result.status (O.faults out.old) (O.faults out.new) (O.written out.old) (O.written out.new) }
-
-    // Each other status has its cause.
-    ensures usage { result.status ≡ Status.Usage ↔ (transfer_of (map string_bytes words.now) ≡ None) }
-    ensures source_fault { result.status ≡ Status.SourceFault → SomeRose S.faults sources.items result.sources.items }
-    ensures disk_fault { result.status ≡ Status.DiskFault → DepotRose D.state (D.state depot) result.depot }
-    ensures link_fault { result.status ≡ Status.LinkFault → SomeRose (λ c. capped (C.faults c)) dialers.items result.dialers.items ⊎ SomeRose (λ a. capped (A.faults a)) acceptors.items result.acceptors.items }
-    ensures peer { (kind : PeerKind) → result.status ≡ Status.Peer kind → HasPeer kind result.sender.items result.receiver.items }
-    ensures bad_frame { (at : ℕ) → result.status ≡ Status.Peer (PeerKind.BadFrame at)
-        → SomeRose (λ c. capped (C.alarms c)) dialers.items result.dialers.items ⊎ SomeRose (λ a. capped (A.alarms a)) acceptors.items result.acceptors.items }
-    ensures aborted { (code : ℕ) → result.status ≡ Status.Aborted code → HasAbort code result.sender.items result.receiver.items
-        × (SomeRose (λ c. capped (C.alarms c)) dialers.items result.dialers.items ⊎ SomeRose (λ a. capped (A.alarms a)) acceptors.items result.acceptors.items) }
-    ensures refused { (kind : RefusedKind) → result.status ≡ Status.Refused kind
-        → IfSome (transfer_of (map string_bytes words.now)) (λ transfer. IsTransferCause N.told transfer (first_told S.listing sources.items) (D.state depot).told kind) }
-    ensures out_fault { result.status ≡ Status.OutFault → Rises (O.faults out.old) (O.faults out.new) }
 
     // Where no count rose, nothing is refused, and no end heard that the other failed or said what it may not
     // say, the transfer is done, or memory ran out.
