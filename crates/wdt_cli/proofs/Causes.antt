@@ -1,4 +1,4 @@
--- Why a copy isn't done.
+-- Why a transfer isn't done.
 use Rattle.std.proofs.Common.{◌≡◌, ◌≢◌, ◌⊎◌, inl, inr, ℕ, ◌<◌, ◌≤◌, List, [], ◌∷◌, length, slice_index_or, Option, Some, None, IfSome, refl, sym, ap, ◌∙◌, subst, arith}
 use Rattle.wdt_units.specs.Counts.{Rises, Stands, capped}
 use Rattle.wdt_tree.specs.Told.{ToldRun}
@@ -13,9 +13,10 @@ use Rattle.wdt_tool.specs.Causes.{IsDoneOrStarved}
 use Rattle.wdt_tool.specs.declared.status.Status.{Status}
 use Rattle.wdt_tool.specs.declared.status.Status.TheVariants.{Done, Usage, SourceFault, DiskFault, LinkFault, Peer, Aborted, Refused, OutFault, NoMemory}
 use Rattle.wdt_words.specs.declared.command.Transfer.{Transfer}
-use Rattle.wdt_cli.specs.Carried.{DepotRose, DepotStands, NoneRose, SomeRose}
-use Rattle.wdt_cli.specs.Causes.{HasAbort, HasPeer, HeardNothing, IsTransferCause, IsUnrefused}
-use Rattle.wdt_cli.specs.Leaves.{LinkRose}
+use Rattle.wdt_sending.specs.Causes.{HasAbort, HasPeer, HeardNothing, IsTransferCause, IsUnrefused}
+use Rattle.wdt_sending.specs.Counted.{NoneRose, SomeRose}
+use Rattle.wdt_sending.specs.Leaves.{LeavesHistories, LinkRose}
+use Rattle.wdt_cli.specs.Carried.{DepotRose, DepotStands}
 
 not_both : (old new : ℕ) → Rises old new → Stands old new → ⊥
 not_both old new rose stood = omega (arith, rose.more stood.below, stood.same)
@@ -79,3 +80,23 @@ no_refusal run transfer listing told status some cause unrefused kind is = refus
 
 pub no_out : (before after : ℕ) (status : Status) → (status ≡ OutFault → Rises before after) → Stands before after → status ≡ OutFault → ⊥
 no_out before after status cause stood is = not_both before after (cause is) stood
+
+-- ---- completeness
+
+-- where none of the causes is, the transfer is done, or memory ran out
+pub completes : {S D C A : Type 0} (faults : S → ℕ) (state : D → State) (near : C → ℕ) (far : A → ℕ) (run : Option ToldRun) (transfer : Option Transfer) (listing : Option (List Entry))
+    (told : Option Told) (status : Status) (sources more_sources : List S) (before : State) (depot : Option D) (dialers more_dialers : List C) (acceptors more_acceptors : List A)
+    (h : List SendEvent) (g : List RecvEvent) (out more_out : ℕ)
+    → (status ≡ Usage → ⊥) → (status ≡ SourceFault → SomeRose faults sources more_sources) → (status ≡ DiskFault → DepotRose state before depot)
+    → (status ≡ LinkFault → LinkRose near far dialers more_dialers acceptors more_acceptors) → LeavesHistories h g status
+    → ((kind : RefusedKind) → status ≡ Refused kind → IfSome transfer (λ t. IsTransferCause run t listing told kind)) → (status ≡ OutFault → Rises out more_out)
+    → transfer ≢ None → NoneRose faults sources more_sources → DepotStands state before depot → NoneRose (λ (c : C). capped (near c)) dialers more_dialers
+    → NoneRose (λ (a : A). capped (far a)) acceptors more_acceptors → Stands out more_out → HeardNothing h g → IsUnrefused run transfer listing told status → IsDoneOrStarved status
+completes faults state near far run transfer listing told status sources more_sources before depot dialers more_dialers acceptors more_acceptors h g out more_out used source disk link left refused written some none stood
+    none_near none_far stands heard unrefused =
+    done_without status used (no_source faults status sources more_sources source none) (no_disk state status before depot disk stood)
+    (no_link near far status dialers more_dialers acceptors more_acceptors link none_near none_far)
+    (λ kind is. heard.peer kind (left.peer kind is))
+    (λ code is. heard.abort code (left.aborted code is))
+    (no_refusal run transfer listing told status some refused unrefused)
+    (no_out out more_out status written stands)

@@ -53,7 +53,7 @@ not_lost : (answer : EndAnswer) → answer ≡ answers.Done → HasLostDisk answ
 not_lost answer is lost = subst HasLostDisk is lost
 
 -- a receiver that is done has the run's tree on its disk
-landed_at : {D : Type 0} {state : D → State} {run : Option ToldRun} (before : State) {cut alarmed : LaneSet} {depot : Option D} {g : List RecvEvent} {status : Status} → Arrives
+pub landed_at : {D : Type 0} {state : D → State} {run : Option ToldRun} (before : State) {cut alarmed : LaneSet} {depot : Option D} {g : List RecvEvent} {status : Status} → Arrives
     → (taken : ReceiverTaken state run (started_of before) cut alarmed depot g status) → taken.received.answer ≡ answers.Done → IfSome run (λ r. LandsIn state r.tree (Some taken.over))
 landed_at {state = state} {run = run} before arrives taken is = go run taken.kept.good taken.kept.sized where
   finish : has_finish taken.received ≡ true
@@ -109,7 +109,7 @@ kept_none : {D : Type 0} (state : D → State) (run : Option ToldRun) (before : 
 kept_none state None before = record { good = tt; images = tt; others = tt; slips = tt; spots = tt }
 kept_none state (Some x) before = record { good = tt; images = tt; others = tt; slips = tt; spots = tt }
 
-keeps_of : {D : Type 0} (state : D → State) (run : Option ToldRun) (before : State) (cut alarmed : LaneSet) (depot : Option D) (g : List RecvEvent) (status : Status)
+pub keeps_of : {D : Type 0} (state : D → State) (run : Option ToldRun) (before : State) (cut alarmed : LaneSet) (depot : Option D) (g : List RecvEvent) (status : Status)
     → ReceiverEnds state run (started_of before) cut alarmed depot g status → Keeps state run before depot
 keeps_of {D} state run before cut alarmed depot g status (inl none) = subst (λ (x : Option D). Keeps state run before x) (sym none.2) (kept_none state run before)
 keeps_of {D} state run before cut alarmed depot g status (inr taken) =
@@ -148,3 +148,20 @@ depot_left {D} state run {begun = begun} before {lost = lost} {cut = cut} {alarm
       lost_at : (e.sent.sent.answer ≡ answers.Disk) ⊎ (e.received.received.answer ≡ answers.Disk) → DepotRose state before depot
       lost_at (inl near) = absurd (e.sent.diskless near)
       lost_at (inr far) = subst (λ (x : Option D). DepotRose state before x) (sym e.received.back) (e.received.kept.lost (subst HasLostDisk (sym far) tt))
+
+-- ---- where it has no use
+
+-- a depot of a send
+pub unused_depot : {D : Type 0} (state : D → State) (depot : D) (status : Status) (after : Option D) → after ≡ Some depot → (state depot).spots ≡ [] → (status ≡ DiskFault → ⊥)
+    → LeavesDepot state None (state depot) status after
+unused_depot {D} state depot status after is spots never =
+    subst (λ (x : Option D). LeavesDepot state None (state depot) status x) (sym is) record {
+      landed = λ done. tt;
+      unwritten = λ out. tt;
+      good = tt;
+      images = tt;
+      others = tt;
+      slips = tt;
+      spots = spots;
+      fault = λ e. absurd (never e);
+    }

@@ -11,10 +11,11 @@ use Rattle.wdt_lanes.specs.Kept.{Begun}
 use Rattle.wdt_recv_lanes.specs.Kept.{Started}
 use Rattle.wdt_tool.specs.declared.status.Status.{Status}
 use Rattle.wdt_tool.specs.declared.status.Status.TheVariants.{Done, Usage, OutFault, NoMemory}
-use Rattle.wdt_cli.specs.Causes.{BothEnded}
-use Rattle.wdt_cli.specs.Judging.{first_of, has_some, status_of}
-use Rattle.wdt_cli.specs.Sides.{ReceiverEnds, ReceiverLeaves, ReceiverTaken, SenderEnds, SenderLeaves, SenderTaken}
-use Rattle.wdt_cli.proofs.Judged.{IsAnswerOf, both_done, either, first_starved, never_for, second_starved}
+use Rattle.wdt_sending.specs.Causes.{BothEnded, ReceiverRan, SenderRan}
+use Rattle.wdt_sending.specs.Judging.{first_of, has_some, status_of}
+use Rattle.wdt_sending.specs.Sending.{SenderEnds, SenderLeaves, SenderTaken}
+use Rattle.wdt_sending.proofs.ForCallers.{IsAnswerOf, both_done, either, first_starved, never_for, second_starved, sender_ran}
+use Rattle.wdt_cli.specs.Sides.{ReceiverEnds, ReceiverLeaves, ReceiverTaken}
 
 -- both ends were taken, and the status is the first of what they come to
 pub record Ends {D : Type 0} (state : D → State) (run : Option ToldRun) (begun : Begun) (start : Started) (lost cut alarmed far_cut far_alarmed : LaneSet)
@@ -86,24 +87,27 @@ not_out (inl starved) is = cc
 not_out {lost = lost} {cut = cut} {alarmed = alarmed} {far_cut = far_cut} {far_alarmed = far_alarmed} (inr e) is =
     never_for (has_some lost) (has_some cut) (has_some alarmed) e.sent.sent.answer false (has_some far_cut) (has_some far_alarmed) e.received.received.answer (inr (answer_behind e OutFault is))
 
--- how both ended, of so many files
-pub both_ended : {D : Type 0} {state : D → State} {run : Option ToldRun} {begun : Begun} {start : Started} {lost cut alarmed far_cut far_alarmed : LaneSet} {h : List SendEvent} {depot : Option D}
-    {g : List RecvEvent}
-    {status : Status} (e : Ends state run begun start lost cut alarmed far_cut far_alarmed h depot g status) (files : ℕ) → files ≡ length begun.manifest → BothEnded run files h g status
-both_ended {begun = begun} {lost = lost} {cut = cut} {alarmed = alarmed} {far_cut = far_cut} {far_alarmed = far_alarmed} e files counted =
+-- ---- how they ended
+
+-- a receiving end
+pub receiver_ran : {D : Type 0} {state : D → State} {run : Option ToldRun} {start : Started} {cut alarmed : LaneSet} {depot : Option D} {g : List RecvEvent} {status : Status}
+    (t : ReceiverTaken state run start cut alarmed depot g status) → ReceiverRan g status
+receiver_ran {cut = cut} {alarmed = alarmed} t =
     record {
-      sent = e.sent.sent;
-      is_sender = e.sent.is_sender;
-      begun = begun;
-      kept = e.sent.kept;
-      sent_is = e.sent.noted;
-      counted = counted ∙ ap length (sym e.sent.kept.manifest);
-      sender_met = record { lost = has_some lost; cut = has_some cut; alarmed = has_some alarmed };
-      received = e.received.received;
-      is_receiver = e.received.is_receiver;
-      received_is = e.received.noted;
-      done = e.received.done;
-      heard = e.received.heard;
-      receiver_met = record { lost = false; cut = has_some far_cut; alarmed = has_some far_alarmed };
-      judged = first_is e;
+      received = t.received;
+      is_receiver = t.is_receiver;
+      received_is = t.noted;
+      done = t.done;
+      heard = t.heard;
+      met = record { lost = false; cut = has_some cut; alarmed = has_some alarmed };
+      judged = t.judged;
     }
+
+-- both, unless memory ran out
+pub both_or : {D : Type 0} {state : D → State} {run : Option ToldRun} {begun : Begun} {start : Started} {lost cut alarmed far_cut far_alarmed : LaneSet} {h : List SendEvent} {depot : Option D}
+    {g : List RecvEvent}
+    {status : Status} (files : ℕ) → files ≡ length begun.manifest → EndsOr state run begun start lost cut alarmed far_cut far_alarmed h depot g status
+    → (status ≡ NoMemory) ⊎ BothEnded run files h g status
+both_or files counted (inl starved) = inl starved
+both_or files counted (inr e) =
+    inr record { near = e.near; far = e.far; sent = sender_ran e.sent files counted; received = receiver_ran e.received; judged = e.judged }

@@ -25,13 +25,13 @@ use Rattle.wdt_recv_lanes.specs.Kept.{Started}
 use Rattle.wdt_yard.specs.Turns.{IsLegalOfSome}
 use Rattle.wdt_tool.specs.declared.status.Status.{Status}
 use Rattle.wdt_tool.specs.declared.status.Status.TheVariants.{Done, SourceFault, LinkFault, Peer, Aborted, NoMemory}
-use Rattle.wdt_cli.specs.Carried.{IsLegalBySome, SomeRose}
-use Rattle.wdt_cli.specs.Causes.{HasAbort, HasPeer}
-use Rattle.wdt_cli.specs.Judging.{has_some}
-use Rattle.wdt_cli.specs.Leaves.{LeavesHistories, LeavesLinks, LeavesSources, LinkRose}
-use Rattle.wdt_cli.specs.Sides.{MetAtRest, MetBy}
+use Rattle.wdt_sending.specs.Causes.{HasAbort, HasPeer}
+use Rattle.wdt_sending.specs.Counted.{SomeRose}
+use Rattle.wdt_sending.specs.Judging.{has_some}
+use Rattle.wdt_sending.specs.Leaves.{IsLegalBySome, LeavesHistories, LeavesLinks, LeavesSources, LinkRose}
+use Rattle.wdt_sending.specs.Sending.{MetAtRest, MetBy}
+use Rattle.wdt_sending.proofs.ForCallers.{IsAnswerOf, NotesAborts, NotesPeers, lost_for, peer_for, received_entry, sent_entry}
 use Rattle.wdt_cli.proofs.Ends.{Ends, EndsOr, answer_behind}
-use Rattle.wdt_cli.proofs.Judged.{IsAnswerOf, lost_for, peer_for}
 
 -- ---- sources
 
@@ -80,20 +80,6 @@ links_left faults alarms far_faults far_alarms {cut = cut} {alarmed = alarmed} {
     }
 
 -- ---- histories
-
--- an entry of a plain end's history stands in the end's
-sent_entry : (history h : List SendEvent) (of : Lane → SendEvent) → h ≡ history → (l : Lane) × Contains history (of l) → (l : Lane) × Contains h (of l)
-sent_entry history h of is found = (found.0, subst (λ (x : List SendEvent). Contains x (of found.0)) (sym is) found.1)
-
-received_entry : (history g : List RecvEvent) (of : Lane → RecvEvent) → g ≡ history → (l : Lane) × Contains history (of l) → (l : Lane) × Contains g (of l)
-received_entry history g of is found = (found.0, subst (λ (x : List RecvEvent). Contains x (of found.0)) (sym is) found.1)
-
--- a sender's end notes what its answer tells that it heard
-abbrev pub NotesPeers : Type 0
-NotesPeers = (s : PlainSender) (kind : PeerKind) → IsSender s → s.answer ≡ answers.Peer kind → (l : Lane) × Contains s.history (sends.Peer l kind)
-
-abbrev pub NotesAborts : Type 0
-NotesAborts = (s : PlainSender) (code : ℕ) → IsSender s → s.answer ≡ answers.Aborted code → (l : Lane) × Contains s.history (sends.Abort l code)
 
 pub histories_left : {D : Type 0} {state : D → State} {run : Option ToldRun} {begun : Begun} {start : Started} {lost cut alarmed far_cut far_alarmed : LaneSet} (h : List SendEvent)
     {depot : Option D} (g : List RecvEvent)

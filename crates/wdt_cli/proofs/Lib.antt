@@ -3,12 +3,10 @@ pub mod Depots
 pub mod Early
 pub mod Ends
 pub mod Handed
-pub mod Judged
 pub mod Left
-pub mod Listing
-pub mod Meeting
 pub mod Opening
 pub mod Pipes
 pub mod Puts
+pub mod ReceivedAlone
 pub mod Refusals
-pub mod Sources
+pub mod Sockets

@@ -1,30 +1,12 @@
--- What holds of a status holds of the status behind its lines.
-use Rattle.std.proofs.Common.{◌≡◌, ◌⊎◌, inl, inr, ℕ, List, length, Option, refl, sym, ap, ◌∙◌, subst}
-use Rattle.wdt_units.specs.Counts.{Rises}
-use Rattle.wdt_units.specs.Tree.{File}
-use Rattle.wdt_units.specs.declared.numbers.LaneSet.{LaneSet}
+-- What holds of a depot by a status holds of it by the status behind its lines.
+use Rattle.std.proofs.Common.{◌≡◌, ℕ, Option}
 use Rattle.wdt_tree.specs.Told.{ToldRun}
 use Rattle.wdt_depot.specs.State.{State}
-use Rattle.wdt_sender_fsm.specs.declared.events.SendEvent.{SendEvent}
-use Rattle.wdt_sender_fsm.specs.declared.peers.PeerKind.TheVariants.{BadFrame}
-use Rattle.wdt_receiver_fsm.specs.declared.events.RecvEvent.{RecvEvent}
-use Rattle.wdt_lanes.specs.Kept.{Begun}
-use Rattle.wdt_recv_lanes.specs.Kept.{Started}
 use Rattle.wdt_tool.specs.declared.status.Status.{Status}
-use Rattle.wdt_tool.specs.declared.status.Status.TheVariants.{Done, Usage, SourceFault, DiskFault, LinkFault, Peer, Aborted, Refused, OutFault, NoMemory}
-use Rattle.wdt_cli.specs.Causes.{BothEnded}
-use Rattle.wdt_cli.specs.Leaves.{LeavesDepot, LeavesHistories, LeavesLinks, LeavesSources}
-use Rattle.wdt_cli.specs.Printed.{IsPut, before_lines}
-use Rattle.wdt_cli.proofs.Ends.{EndsOr, both_ended}
-
--- what was put behind a status that is known
-pub put_as : (status more : Status) (before after : ℕ) (s : Status) → IsPut status more before after → more ≡ s → IsPut status s before after
-put_as status more before after s put is = subst (λ (x : Status). IsPut status x before after) is put
-
-pub put_sources : {S : Type 0} {told : S → Option (List File)} {faults slips : S → ℕ} {run : Option ToldRun} {status : Status} {old new : List S} (more : Status) (before after : ℕ)
-    → IsPut status more before after
-    → LeavesSources told faults slips run status old new → LeavesSources told faults slips run more old new
-put_sources {status = status} more before after put left = record { back = left.back; fault = λ is. left.fault (put_as status more before after SourceFault put is) }
+use Rattle.wdt_tool.specs.declared.status.Status.TheVariants.{Done, DiskFault, OutFault}
+use Rattle.wdt_sending.specs.Printed.{IsPut}
+use Rattle.wdt_sending.proofs.ForCallers.{put_as}
+use Rattle.wdt_cli.specs.Leaves.{LeavesDepot}
 
 pub put_depot : {D : Type 0} {state : D → State} {run : Option ToldRun} {start : State} {status : Status} {depot : Option D} (more : Status) (before after : ℕ) → IsPut status more before after
     → LeavesDepot state run start status depot → LeavesDepot state run start more depot
@@ -39,62 +21,3 @@ put_depot {status = status} more before after put left =
       spots = left.spots;
       fault = λ is. left.fault (put_as status more before after DiskFault put is);
     }
-
-pub put_links : {C A : Type 0} {faults alarms : C → ℕ} {far_faults far_alarms : A → ℕ} {status : Status} {dialers more_dialers : List C} {acceptors more_acceptors : List A} (more : Status)
-    (before after : ℕ) → IsPut status more before after
-    → LeavesLinks faults alarms far_faults far_alarms status dialers more_dialers acceptors more_acceptors
-    → LeavesLinks faults alarms far_faults far_alarms more dialers more_dialers acceptors more_acceptors
-put_links {status = status} more before after put left =
-    record {
-      link_fault = λ is. left.link_fault (put_as status more before after LinkFault put is);
-      bad_frame = λ at is. left.bad_frame at (put_as status more before after (Peer (BadFrame at)) put is);
-      aborted = λ code is. left.aborted code (put_as status more before after (Aborted code) put is);
-    }
-
-pub put_histories : {h : List SendEvent} {g : List RecvEvent} {status : Status} (more : Status) (before after : ℕ) → IsPut status more before after → LeavesHistories h g status
-    → LeavesHistories h g more
-put_histories {status = status} more before after put left =
-    record {
-      sent = left.sent;
-      received = left.received;
-      peer = λ kind is. left.peer kind (put_as status more before after (Peer kind) put is);
-      aborted = λ code is. left.aborted code (put_as status more before after (Aborted code) put is);
-    }
-
--- the status before its lines, unless memory ran out
-before_put : (status more : Status) (before after : ℕ) → IsPut status more before after → (more ≡ NoMemory) ⊎ (status ≡ before_lines more)
-before_put status Done before after put = inr put
-before_put status Usage before after put = inr put
-before_put status SourceFault before after put = inr put
-before_put status DiskFault before after put = inr put
-before_put status LinkFault before after put = inr put
-before_put status (Peer kind) before after put = inr put
-before_put status (Aborted code) before after put = inr put
-before_put status (Refused kind) before after put = inr put
-before_put status OutFault before after put = inr put.0
-before_put status NoMemory before after put = inl refl
-
-starved_before : (more : Status) → before_lines more ≡ NoMemory → more ≡ NoMemory
-starved_before Done is = cc
-starved_before Usage is = is
-starved_before SourceFault is = is
-starved_before DiskFault is = is
-starved_before LinkFault is = is
-starved_before (Peer kind) is = is
-starved_before (Aborted code) is = is
-starved_before (Refused kind) is = is
-starved_before OutFault is = cc
-starved_before NoMemory is = is
-
--- how both ends of a copy of so many files ended, by the status behind its lines
-pub ended_put : {D : Type 0} {state : D → State} {run : Option ToldRun} {begun : Begun} {start : Started} {lost cut alarmed far_cut far_alarmed : LaneSet} {h : List SendEvent} {depot : Option D}
-    {g : List RecvEvent}
-    {status : Status} (files : ℕ) (more : Status) (before after : ℕ) → IsPut status more before after → files ≡ length begun.manifest
-    → EndsOr state run begun start lost cut alarmed far_cut far_alarmed h depot g status → (more ≡ NoMemory) ⊎ BothEnded run files h g (before_lines more)
-ended_put {state = state} {run = run} {begun = begun} {start = start} {lost = lost} {cut = cut} {alarmed = alarmed} {far_cut = far_cut} {far_alarmed = far_alarmed} {h = h} {depot = depot} {g = g}
-    {status = status} files more before after put counted ends = go (before_put status more before after put) ends where
-      go : (more ≡ NoMemory) ⊎ (status ≡ before_lines more) → EndsOr state run begun start lost cut alarmed far_cut far_alarmed h depot g status → (more ≡ NoMemory) ⊎ BothEnded run files h g
-          (before_lines more)
-      go (inl starved) ends = inl starved
-      go (inr is) (inl starved) = inl (starved_before more (sym is ∙ starved))
-      go (inr is) (inr e) = inr (subst (λ (x : Status). BothEnded run files h g x) is (both_ended e files counted))

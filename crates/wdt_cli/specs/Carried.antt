@@ -1,5 +1,5 @@
--- What a copy over connections is handed, and what it leaves.
-use Rattle.std.specs.Prelude.{◌≡◌, ℕ, ◌<◌, List, [], ◌∷◌, length, slice_index_or, Option, Some, None, Ok, IfSome}
+-- What a transfer over connections is handed, and what it leaves.
+use Rattle.std.specs.Prelude.{◌≡◌, ◌≢◌, ℕ, List, [], Option, Some, None, Ok, IfSome}
 use Rattle.wdt_units.specs.Counts.{Rises, Stands}
 use Rattle.wdt_units.specs.Have.{HaveFile}
 use Rattle.wdt_units.specs.Tree.{File}
@@ -10,27 +10,30 @@ use Rattle.wdt_depot.specs.State.{State}
 use Rattle.wdt_logfmt.specs.View.{Meaning, have_of}
 use Rattle.wdt_good.specs.Good.{log_of}
 use Rattle.wdt_good.specs.Logged.{AllFit}
-use Rattle.wdt_receiver_fsm.specs.Legal.{IsLegal, Terms}
+use Rattle.wdt_sender_fsm.specs.declared.events.SendEvent.{SendEvent}
 use Rattle.wdt_receiver_fsm.specs.declared.events.RecvEvent.{RecvEvent}
 use Rattle.wdt_words.specs.declared.command.Transfer.{Transfer}
-use Rattle.wdt_words.specs.declared.command.Transfer.TheVariants.{Copy}
+use Rattle.wdt_words.specs.declared.command.Transfer.TheVariants.{Copy, Send, Recv}
+use Rattle.wdt_tool.specs.declared.status.Status.{Status}
+use Rattle.wdt_tool.specs.declared.status.Status.TheVariants.{DiskFault, SourceFault}
 use Rattle.wdt_recv_lanes.specs.Kept.{IsBeside}
 use Rattle.wdt_arrival.specs.Arrival.{HasArrived}
 
 -- ---- what is handed in
 
--- how many lanes a transfer has
-abbrev pub lanes_in : Transfer → ℕ
-lanes_in (Copy lanes block batch) = lanes
-
--- a copy has a source, a dialer and an acceptor for each of its lanes
+-- a copy has a source, a dialer and an acceptor for each of its lanes, a send no acceptor, and a receiver an acceptor
+-- alone
 abbrev pub IsServed : Transfer → ℕ → ℕ → ℕ → Type 0
 IsServed (Copy lanes block batch) sources dialers acceptors = (sources ≡ lanes) × (dialers ≡ lanes) × (acceptors ≡ lanes)
+IsServed (Send port lanes block session) sources dialers acceptors = (sources ≡ lanes) × (dialers ≡ lanes) × (acceptors ≡ 0)
+IsServed (Recv port lanes batch) sources dialers acceptors = (sources ≡ 0) × (dialers ≡ 0) × (acceptors ≡ lanes)
 
--- what the first of these tells, where it tells that
-abbrev pub first_told : {S X : Type 0} → (S → Option X) → List S → Option X
-first_told tell [] = None
-first_told tell (object ∷ objects) = tell object
+-- the run whose tree comes into the depot: a send has none there
+abbrev pub stored_run : Option Transfer → Option ToldRun → Option ToldRun
+stored_run None run = run
+stored_run (Some (Copy lanes block batch)) run = run
+stored_run (Some (Send port lanes block session)) run = None
+stored_run (Some (Recv port lanes batch)) run = run
 
 -- the log of a disk means that a destination has so much
 abbrev pub HasLogged : Disk → List HaveFile → Type 0
@@ -61,21 +64,14 @@ ReadsOthers tree d (Some u) = (path : List ℕ) → IsBeside tree path → seen_
 abbrev pub KeepsOthers : {D : Type 0} → (D → State) → List File → Option Told → Option D → Type 0
 KeepsOthers state tree told depot = IfSome depot (λ d. IfTold (λ t. ReadsOthers tree t.now (state d).told) told)
 
--- a receiver's history that is legal, by some terms
-abbrev pub IsLegalBySome : List RecvEvent → Type 0
-IsLegalBySome g = (t : Terms) × IsLegal t g
+-- A send hands the depot back as it was handed in, so that no disk fails, and nothing happens at a receiving end. A
+-- receiver has no source that could fail, and nothing happens at a sending end.
+abbrev pub KeepsApart : {D : Type 0} → Transfer → D → Option D → List SendEvent → List RecvEvent → Status → Type 0
+KeepsApart (Copy lanes block batch) before after sender receiver status = Unit {0}
+KeepsApart (Send port lanes block session) before after sender receiver status = (after ≡ Some before) × (receiver ≡ []) × (status ≢ DiskFault)
+KeepsApart (Recv port lanes batch) before after sender receiver status = (sender ≡ []) × (status ≢ SourceFault)
 
--- ---- counts of several objects
-
--- the count of one of these rose
-pub record SomeRose {A : Type 0} (count : A → ℕ) (old new : List A) : Type 0 where
-  pub at : ℕ
-  pub within : at < length old
-  pub rose : (d : A) → Rises (count (slice_index_or old at d)) (count (slice_index_or new at d))
-
--- the count of none of these rose
-abbrev pub NoneRose : {A : Type 0} → (A → ℕ) → List A → List A → Type 0
-NoneRose {A} count old new = (at : ℕ) (d : A) → at < length old → Stands (count (slice_index_or old at d)) (count (slice_index_or new at d))
+-- ---- the count of the depot
 
 -- the count of the depot rose, which came back
 abbrev pub DepotRose : {D : Type 0} → (D → State) → State → Option D → Type 0

@@ -1,4 +1,4 @@
--- What a copy over connections leaves, before its report.
+-- What the ends of a copy over connections are opened with, and what they leave before the report.
 use Rattle.std.specs.Prelude.{◌≡◌, ◌<◌, ◌≤◌, ℕ, List, [], All, length, Option, Some, IfSome}
 use Rattle.wdt_units.specs.Counts.{Rises}
 use Rattle.wdt_units.specs.Tree.{File}
@@ -12,16 +12,14 @@ use Rattle.wdt_log.specs.Others.{OthersStand, SlipsStand}
 use Rattle.wdt_sender_fsm.specs.declared.answers.RefusedKind.TheVariants.{BadLog}
 use Rattle.wdt_dock.specs.declared.opening.DockFail.{DockFail}
 use Rattle.wdt_dock.specs.declared.opening.DockFail.TheVariants as opening
-use Rattle.wdt_lanes.specs.Kept.{Begun, Lists}
+use Rattle.wdt_lanes.specs.Kept.{Lists}
 use Rattle.wdt_tool.specs.Refusals.{IsLogCause}
 use Rattle.wdt_tool.specs.declared.fail.CommandFail.{CommandFail}
 use Rattle.wdt_tool.specs.declared.fail.CommandFail.TheVariants.{Source, Disk, Refused, NoMemory}
 use Rattle.wdt_tool.specs.declared.status.Status.{Status}
-use Rattle.wdt_words.specs.declared.command.Transfer.{Transfer}
-use Rattle.wdt_words.specs.declared.command.Transfer.TheVariants.{Copy}
 use Rattle.wdt_cli.specs.declared.copying.Opening.{Opening}
+use Rattle.wdt_sending.specs.Judging.{first_of}
 use Rattle.wdt_cli.specs.Carried.{IsGivenTo}
-use Rattle.wdt_cli.specs.Judging.{first_of}
 
 -- ---- what a copy is handed
 
@@ -37,9 +35,9 @@ pub record MayOpen (run : Option ToldRun) (manifest : List Entry) (lanes block b
   pub spots : s.spots ≡ []
   pub given : IfSome run (λ r. IsGivenTo r s.told)
 
--- what the ends of a transfer are opened with
-abbrev pub opening_in : Transfer → List Entry → Opening
-opening_in (Copy lanes block batch) manifest = record { manifest = manifest; lanes = lanes; block = block; batch = batch }
+-- what the ends of a copy are opened with
+abbrev pub opening_in : (lanes block batch : ℕ) → List Entry → Opening
+opening_in lanes block batch manifest = record { manifest = manifest; lanes = lanes; block = block; batch = batch }
 
 -- so many lanes have each a source, which tells the run's tree, and a dialer and an acceptor with no connection out
 pub record MayCarry {S C A : Type 0} (told : S → Option (List File)) (dialed : C → ℕ) (accepted : A → ℕ) (run : Option ToldRun) (lanes : ℕ)
@@ -51,9 +49,16 @@ pub record MayCarry {S C A : Type 0} (told : S → Option (List File)) (dialed :
   pub dialers_home : All (λ dialer. dialed dialer ≡ 0) dialers
   pub acceptors_home : All (λ acceptor. accepted acceptor ≡ 0) acceptors
 
--- a sender's end as it begins
-abbrev pub begun_of : List Entry → ℕ → Begun
-begun_of manifest block = record { manifest = manifest; block = block }
+-- A receiving end may be opened with these: 1 to 16 lanes, each with an acceptor with no connection out, batches of
+-- some bytes, and a depot, in which no file is entered, as it is given to the run.
+pub record MayTake {A : Type 0} (accepted : A → ℕ) (run : Option ToldRun) (lanes batch : ℕ) (s : State) (acceptors : List A) : Type 0 where
+  pub some_lanes : 1 ≤ lanes
+  pub few_lanes : lanes ≤ MAX_LANES
+  pub some_batch : 0 < batch
+  pub spots : s.spots ≡ []
+  pub given : IfSome run (λ r. IsGivenTo r s.told)
+  pub as_many : length acceptors ≡ lanes
+  pub home : All (λ acceptor. accepted acceptor ≡ 0) acceptors
 
 -- ---- what a copy leaves
 

@@ -1,46 +1,31 @@
 //! A copy over connections: both ends are opened, run side by side, and closed.
-ghost use Rattle.std.specs.Prelude.{◌≡◌, ◌<◌, ◌≤◌, [], map, IfErr, IfOk, IfSome};
-ghost use Rattle.wdt_units.specs.declared.limits.TheConstants.{MAX_BLOCK, MAX_LANES};
+ghost use Rattle.std.specs.Prelude.{◌≡◌, map, IfErr, IfOk};
 ghost use Rattle.wdt_gate.specs.Told.{upto};
-ghost use Rattle.wdt_lanes.specs.Kept.{Lists};
 ghost use Rattle.wdt_recv_lanes.specs.Kept.{started_of};
-ghost use Rattle.wdt_cli.specs.Carried.{IsGivenTo};
-ghost use Rattle.wdt_cli.specs.Copied.{CopyLeaves, IsUnopened, MayCarry, MayOpen, begun_of, failure_of};
-ghost use Rattle.wdt_cli.specs.Judging.{first_of};
-ghost use Rattle.wdt_cli.specs.Sides.{MayReceive, MaySend, ReceiverLeaves, SenderLeaves};
+ghost use Rattle.wdt_sending.specs.Judging.{first_of};
+ghost use Rattle.wdt_sending.specs.Sending.{MaySend, SenderLeaves, begun_of};
+ghost use Rattle.wdt_cli.specs.Copied.{CopyLeaves, IsUnopened, MayCarry, MayOpen};
+ghost use Rattle.wdt_cli.specs.Sides.{MayReceive, ReceiverLeaves};
 
-use crate::carry::Carried;
-use crate::judging::first_of;
+use crate::receiver_opening::open_receiver;
 use crate::receiver_side::{Received, ReceiverSide, run_receiver};
-use crate::sender_side::{SenderSide, Sent, run_sender};
-use std::alloc::{AllocError, Global};
+use std::alloc::Global;
 use std::marker::{Brand, PhantomData};
 use std::sync::Wait;
 use std::sync::ledger::{Blank, Ledger};
 use std::thread;
 use std::thread::Threads;
 use wdt_depot::Depot;
-use wdt_dock::{Dock, DockFail};
 use wdt_gate::{Hub, MutexHub, MutexPass};
 use wdt_lanes::{Begin, KeptYard};
 use wdt_link::{Accept, Dial};
 use wdt_recv_lanes::{KeptDock, Start};
-use wdt_sender_fsm::RefusedKind;
+use wdt_sending::{Carried, Parts, SenderSide, Sending, Sent, first_of, open_sender, run_sender};
 use wdt_source::Source;
 use wdt_tool::CommandFail;
 use wdt_tree::{Manifest, Run};
-use wdt_units::{MAX_BLOCK, MAX_LANES, NoMemory};
-use wdt_yard::Yard;
 
-/// What a copy is handed, and hands back.
-pub struct Parts<S, D, C, A> {
-    pub sources: Vec<S>,
-    pub depot: D,
-    pub dialers: Vec<C>,
-    pub acceptors: Vec<A>,
-}
-
-/// What both ends are opened with.
+/// What both ends of a copy are opened with.
 pub struct Opening {
     pub manifest: Manifest,
     /// How many lanes, 1 to 16.
@@ -51,7 +36,7 @@ pub struct Opening {
     pub batch: u64,
 }
 
-// The number of the transfer: a copy has one session.
+// A copy has one session.
 const SESSION: u64 = 1;
 
 /// Copies the files of a manifest from the sources into the depot. `Err` hands back what was handed in,
@@ -258,90 +243,20 @@ fn open_ends<
         block,
         batch,
     } = opening;
-    let Ok((near, far)) = two_of(rt) else {
+    let Ok(far) = rt.clone() else {
         return Err((CommandFail::NoMemory, depot));
     };
-    let Ok(sender) = open_sender::<R, N, B, L>(near, alloc, manifest, lanes, block, sent) else {
+    let sending = Sending {
+        manifest,
+        lanes,
+        block,
+        session: SESSION,
+    };
+    let Ok(sender) = open_sender::<R, N, B, L>(rt, alloc, sending, sent) else {
         return Err((CommandFail::NoMemory, depot));
     };
     let receiver = open_receiver::<R, N, D, J, K>(far, alloc, depot, lanes, batch, received)?;
     Ok(Ends { sender, receiver })
-}
-
-// The runtime once more for each end.
-fn two_of<R: Clone + Drop>(rt: &R) -> Result<(R, R), AllocError> {
-    let near = rt.clone()?;
-    let far = rt.clone()?;
-    Ok((near, far))
-}
-
-// Opens the sending end.
-fn open_sender<R: Wait + Drop, N: Run, B: Begin, L: Ledger>(
-    rt: R,
-    alloc: Global,
-    manifest: Manifest,
-    lanes: u8,
-    block: u32,
-    blank: Blank,
-) -> Result<(MutexHub<R, KeptYard<N, B>, L>, Vec<MutexPass<L>>), NoMemory>
-    requires some_lanes { 1 ≤ lanes }
-    requires few_lanes { lanes ≤ MAX_LANES }
-    requires some_block { 1 ≤ block }
-    requires block_limit { block ≤ MAX_BLOCK }
-    requires lists { Lists N.told manifest }
-    requires begun { B.begun ≡ begun_of manifest block }
-    requires blank { (blank.name ≡ L.name) × (blank.parts ≡ L.parts) × (blank.parts ≡ lanes) }
-    ensures passes { IfOk result (λ opened. map (λ pass. pass.lane) opened.1.items ≡ upto 0 L.parts) }
-{
-    let yard = Yard::open(alloc, manifest, lanes, block, SESSION)?;
-    let yard = KeptYard::<N, B>::of(yard);
-    match MutexHub::<R, KeptYard<N, B>, L>::open(rt, alloc, blank, yard, lanes) {
-        Ok(opened) => Ok(opened),
-        Err(_) => Err(NoMemory),
-    }
-}
-
-// Opens the receiving end. `Err` hands the depot back.
-fn open_receiver<R: Wait + Drop, N: Run, D: Depot + Drop, J: Start, K: Ledger>(
-    rt: R,
-    alloc: Global,
-    depot: D,
-    lanes: u8,
-    batch: u64,
-    blank: Blank,
-) -> Result<(MutexHub<R, KeptDock<N, D, J>, K>, Vec<MutexPass<K>>), (CommandFail, D)>
-    requires some_lanes { 1 ≤ lanes }
-    requires few_lanes { lanes ≤ MAX_LANES }
-    requires some_batch { 0 < batch }
-    requires spots { (D.state depot).spots ≡ [] }
-    requires given { IfSome N.told (λ run. IsGivenTo run (D.state depot).told) }
-    requires start { J.started ≡ started_of (D.state depot) }
-    requires blank { (blank.name ≡ K.name) × (blank.parts ≡ K.parts) × (blank.parts ≡ lanes) }
-    ensures passes { IfOk result (λ opened. map (λ pass. pass.lane) opened.1.items ≡ upto 0 K.parts) }
-    ensures unopened { IfErr result (λ back. IsUnopened back.0 (D.state depot) (D.state back.1)) }
-{
-    let dock = match Dock::open(alloc, depot, lanes, batch) {
-        Ok(dock) => KeptDock::<N, D, J>::of(dock),
-        Err((failure, depot)) => return Err((failure_of(failure), depot)),
-    };
-    match MutexHub::<R, KeptDock<N, D, J>, K>::open(rt, alloc, blank, dock, lanes) {
-        Ok(opened) => Ok(opened),
-        Err((dock, _)) => {
-            let (depot, ..) = dock.into_dock().close();
-            Err((CommandFail::NoMemory, depot))
-        }
-    }
-}
-
-// Why a copy doesn't begin, where its receiving end doesn't open.
-fn failure_of(failure: DockFail) -> CommandFail
-    ensures { result ≡ failure_of failure }
-{
-    match failure {
-        DockFail::Disk => CommandFail::Disk,
-        DockFail::BadLog { at } => CommandFail::Refused(RefusedKind::BadLog { at }),
-        DockFail::NoMemory => CommandFail::NoMemory,
-    }
 }
 
 // What both ends leave together.

@@ -1,10 +1,10 @@
 //! What the tests of copies run on.
-ghost use Rattle.std.specs.Prelude.{◌≡◌, IfOk, Some, length, map, string_bytes};
+ghost use Rattle.std.specs.Prelude.{◌≡◌, IfOk, IfSome, length, map, string_bytes};
 ghost use Rattle.wdt_words.specs.Words.{transfer_of};
+ghost use Rattle.wdt_cli.specs.Carried.{IsServed};
 
-use crate::carry::{Carried, carry};
+use crate::carry::carry;
 use crate::gated::gated;
-use crate::transferring::lanes_of;
 use std::alloc::Global;
 use std::sync::Wait;
 use std::sync::atomic::AtomicBool;
@@ -13,10 +13,11 @@ use std::thread::Threads;
 use wdt_depot::MemDepot;
 use wdt_pipes::pipe_ends;
 use wdt_receiver_fsm::RecvEvent;
+use wdt_sending::Carried;
 use wdt_source::MemSource;
 use wdt_tool::Status;
 use wdt_tree::{Plain, Untold};
-use wdt_units::{Lane, MemSink, Name};
+use wdt_units::{Lane, MemSink, Name, NoMemory};
 use wdt_words::{Transfer, transfer_of};
 
 /// A file of a tree: its path, and its bytes.
@@ -49,15 +50,18 @@ pub const NOTHING: Failing<'static> = Failing {
     held: None,
 };
 
-fn plain(alloc: Global, path: &str, bytes: &[u8]) -> Result<Plain, Fail> {
+fn plain(alloc: Global, path: &str, bytes: &[u8]) -> Result<Plain, NoMemory> {
+    let Ok(path) = Name::read(alloc, path.as_bytes()) else {
+        return Err(NoMemory);
+    };
     Ok(Plain {
-        path: Name::read(alloc, path.as_bytes())?,
+        path,
         stamp: 0,
         bytes: Vec::from_slice(alloc, bytes)?,
     })
 }
 
-fn source_of(alloc: Global, files: &[Listed<'_>], fails: &[u32]) -> Result<MemSource, Fail> {
+fn source_of(alloc: Global, files: &[Listed<'_>], fails: &[u32]) -> Result<MemSource, NoMemory> {
     let mut listed = Vec::new(alloc);
     for (path, bytes) in files {
         listed.push(plain(alloc, path, bytes)?)?;
@@ -65,13 +69,13 @@ fn source_of(alloc: Global, files: &[Listed<'_>], fails: &[u32]) -> Result<MemSo
     Ok(MemSource::of(listed, Vec::from_slice(alloc, fails)?))
 }
 
-// Sources of these files, of which each fails so.
-fn sources_of(
+/// A source of these files for each lane, of whose calls these fail, by their numbers from 1.
+pub fn sources_of(
     alloc: Global,
     lanes: u8,
     files: &[Listed<'_>],
     fails: &[u32],
-) -> Result<Vec<MemSource>, Fail>
+) -> Result<Vec<MemSource>, NoMemory>
     ensures { IfOk result (λ sources. length sources.items ≡ lanes) }
 {
     let mut sources = Vec::new(alloc);
@@ -89,14 +93,22 @@ pub fn copy_over_pipes<R: Threads + Wait + Clone + Drop + Send + Sync>(
     files: &[Listed<'_>],
     fails: &Failing<'_>,
 ) -> Result<Copied, Fail> {
+    let texts = texts_of(alloc, words)?;
+    match transfer_of(&texts) {
+        Some(Transfer::Copy { lanes, .. }) => {
+            run_over_pipes(rt, alloc, &texts, lanes, files, fails)
+        }
+        _ => Err(Fail::from("the words are no copy")),
+    }
+}
+
+/// The words as a process is started with them.
+pub fn texts_of(alloc: Global, words: &[&str]) -> Result<Vec<String>, NoMemory> {
     let mut texts = Vec::new(alloc);
     for word in words {
         texts.push(String::from_str(alloc, word)?)?;
     }
-    match transfer_of(&texts) {
-        Some(command) => run_over_pipes(rt, alloc, &texts, command, files, fails),
-        None => Err(Fail::from("the words are no copy")),
-    }
+    Ok(texts)
 }
 
 // The same of words that are one.
@@ -104,13 +116,12 @@ fn run_over_pipes<R: Threads + Wait + Clone + Drop + Send + Sync>(
     rt: &R,
     alloc: Global,
     words: &[String],
-    command: Transfer,
+    lanes: u8,
     files: &[Listed<'_>],
     fails: &Failing<'_>,
 ) -> Result<Copied, Fail>
-    requires { transfer_of (map string_bytes words.now) ≡ Some command }
+    requires { IfSome (transfer_of (map string_bytes words.now)) (λ transfer. IsServed transfer lanes lanes lanes) }
 {
-    let lanes = lanes_of(command);
     let sources = sources_of(alloc, lanes, files, fails.sources)?;
     let depot = MemDepot::of(alloc, Vec::new(alloc), Vec::new(alloc))?;
     let dials = Vec::from_slice(alloc, fails.dials)?;

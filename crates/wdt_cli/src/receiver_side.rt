@@ -1,10 +1,9 @@
-//! The receiving end of a copy.
+//! The receiving end of a transfer.
 ghost use Rattle.std.specs.Prelude.{◌≡◌, ◌≤◌, All, length, map};
 ghost use Rattle.wdt_gate.specs.Told.{upto};
-ghost use Rattle.wdt_cli.specs.Carried.{IsLegalBySome};
+ghost use Rattle.wdt_sending.specs.Leaves.{IsLegalBySome};
 ghost use Rattle.wdt_cli.specs.Sides.{MayReceive, ReceiverEnds, ReceiverLeaves};
 
-use crate::judging::status_of;
 use std::alloc::Global;
 use std::marker::PhantomData;
 use std::sync::Wait;
@@ -14,6 +13,7 @@ use wdt_gate::Hub;
 use wdt_link::Accept;
 use wdt_receiver_fsm::RecvEvent;
 use wdt_recv_lanes::{KeptDock, RecvEnd, Start, recv_end};
+use wdt_sending::status_of;
 use wdt_tool::Status;
 use wdt_tree::Run;
 use wdt_units::LaneSet;

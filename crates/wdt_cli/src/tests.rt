@@ -1,7 +1,9 @@
 //! What no clause says: that copies succeed, and worked examples of their lines.
 use crate::fixtures::{Failing, Listed, NOTHING, copy_over_pipes};
+use crate::tcp_fixtures::{own_host, receive_at, send_to};
 use std::alloc::Global;
 use std::test::Fail;
+use std::thread;
 use wdt_receiver_fsm::RecvEvent;
 use wdt_units::{Lane, Name};
 
@@ -104,6 +106,39 @@ fn lanes_run_side_by_side(rt: HostRuntime) -> Result<(), Fail> {
         };
         let copied = copy_over_pipes(&rt, rt.alloc(), &words, &files, &fails)?;
         assert_eq!(rt; copied.lines.as_slice(), told.as_slice());
+    }
+    Ok(())
+}
+
+// What is sent over TCP, in blocks of two bytes.
+const SENT: [Listed<'static>; 3] = [("a", b"hi"), ("b/c", b"hello"), ("d", b"")];
+
+const SEND: [&str; 8] = [
+    "send", "SRC", "HOST", "7000", "--lanes", "2", "--block", "2",
+];
+
+const RECV: [&str; 6] = ["recv", "DST", "HOST", "7000", "--lanes", "2"];
+
+#[test]
+fn a_send_and_a_receiver_copy_over_tcp(rt: HostRuntime) -> Result<(), Fail> {
+    let alloc = rt.alloc();
+    let host = own_host(&rt)?;
+    let (sent, received) = thread::join(
+        &rt,
+        || send_to(&rt, alloc, &SEND, &host, &SENT),
+        || receive_at(&rt, alloc, &RECV, &host),
+    );
+    let sent = sent.ok_or("no sender")?;
+    let received = received.ok_or("no receiver")?;
+    assert_eq!(rt; (sent.status.code(), received.status.code()), (0, 0));
+    let told = b"files 3\nblocks 5\nbytes 7\nconnections 2\nrequeued 0\nok\n";
+    assert_eq!(rt; sent.lines.as_slice(), told.as_slice());
+    let told = b"blocks 5\nbytes 7\nconnections 2\nclosed 0\nok\n";
+    assert_eq!(rt; received.lines.as_slice(), told.as_slice());
+    let depot = received.depot.ok_or("no depot")?;
+    for (path, bytes) in &SENT {
+        let path = Name::read(alloc, path.as_bytes())?;
+        assert!(rt; depot.shown(&path) == Some(*bytes));
     }
     Ok(())
 }

@@ -1,4 +1,5 @@
 pub mod Named
+pub mod Names
 pub mod Numbers
 pub mod Options
 pub mod Remote

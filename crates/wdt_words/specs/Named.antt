@@ -1,13 +1,10 @@
 -- What a form of a command names, as plain data.
 use Rattle.std.specs.Prelude.{ℕ, List, [], slice_get, Option, Some, None, option_map}
 use Rattle.wdt_words.specs.Words.{command_of, transfer_of}
-use Rattle.wdt_words.specs.Remote.{remote_of}
 use Rattle.wdt_words.specs.declared.command.Command.{Command}
 use Rattle.wdt_words.specs.declared.command.Command.TheVariants.{Rehearse, Plan, Log}
 use Rattle.wdt_words.specs.declared.command.Transfer.{Transfer}
-use Rattle.wdt_words.specs.declared.command.Transfer.TheVariants.{Copy}
-use Rattle.wdt_words.specs.declared.command.Remote.{Remote}
-use Rattle.wdt_words.specs.declared.command.Remote.TheVariants.{Send, Recv}
+use Rattle.wdt_words.specs.declared.command.Transfer.TheVariants.{Copy, Send, Recv}
 
 -- the folders and the host by their bytes, the host's port, and how many lanes
 pub record PlainNamed : Type 0 where
@@ -45,11 +42,8 @@ named_by words command = record { source = source_of words command; dest = dest_
 -- what the words name, as a form of a transfer
 abbrev pub named_in : List (List ℕ) → Transfer → PlainNamed
 named_in words (Copy lanes block batch) = record { source = word_at words 1; dest = word_at words 2; host = []; port = 0; lanes = lanes }
-
--- what the words name, as a form to or from another machine
-abbrev pub named_at : List (List ℕ) → Remote → PlainNamed
-named_at words (Send port lanes block session) = record { source = word_at words 1; dest = []; host = word_at words 2; port = port; lanes = lanes }
-named_at words (Recv port lanes batch) = record { source = []; dest = word_at words 1; host = word_at words 2; port = port; lanes = lanes }
+named_in words (Send port lanes block session) = record { source = word_at words 1; dest = []; host = word_at words 2; port = port; lanes = lanes }
+named_in words (Recv port lanes batch) = record { source = []; dest = word_at words 1; host = word_at words 2; port = port; lanes = lanes }
 
 -- the first, or else the other
 abbrev pub first_of : Option PlainNamed → Option PlainNamed → Option PlainNamed
@@ -59,5 +53,4 @@ first_of (Some named) other = Some named
 -- what the words name, where they are a form
 abbrev pub named_of : List (List ℕ) → Option PlainNamed
 named_of words =
-    first_of (option_map (named_by words) (command_of words))
-    (first_of (option_map (named_in words) (transfer_of words)) (option_map (named_at words) (remote_of words)))
+    first_of (option_map (named_by words) (command_of words)) (option_map (named_in words) (transfer_of words))

@@ -1,21 +1,19 @@
 -- The forms of words, and what each names.
-use Rattle.std.specs.Prelude.{ℕ, ◌≤◌, Bool, false, not, ◌==◌, ◌&&◌, List, [], ◌∷◌, Option, Some, None, option_map, if◌then◌else◌, codes}
+use Rattle.std.specs.Prelude.{ℕ, ◌≤◌, ◌&&◌, List, [], ◌∷◌, Option, Some, None, option_map, if◌then◌else◌, codes}
 use Rattle.std.specs.Str.{bytes_eq}
 use Rattle.wdt_units.specs.declared.limits.TheConstants.{MAX_BATCH, MAX_BLOCK, MAX_LANES}
+use Rattle.wdt_words.specs.Names.{is_name}
 use Rattle.wdt_words.specs.Numbers.{IsWithin}
 use Rattle.wdt_words.specs.Options.{batch_of, block_of, lanes_of, options_of}
+use Rattle.wdt_words.specs.Remote.{recv_form, send_form, IsReachable}
 use Rattle.wdt_words.specs.declared.command.Command.{Command}
 use Rattle.wdt_words.specs.declared.command.Command.TheVariants.{Rehearse, Plan, Log}
 use Rattle.wdt_words.specs.declared.command.Transfer.{Transfer}
-use Rattle.wdt_words.specs.declared.command.Transfer.TheVariants.{Copy}
+use Rattle.wdt_words.specs.declared.command.Transfer.TheVariants.{Copy, Send, Recv}
 use Rattle.wdt_words.specs.declared.options.Form.{Form}
 use Rattle.wdt_words.specs.declared.options.Form.TheVariants as forms
 use Rattle.wdt_words.specs.declared.options.Options.{Options}
-
--- a word that may name a folder: neither empty nor begun with `-`
-abbrev pub is_name : List ℕ → Bool
-is_name [] = false
-is_name (first ∷ more) = not (first == 45)
+use Rattle.wdt_words.specs.declared.options.TheConstants.{MAX_SESSION}
 
 -- ---- the words behind a command
 
@@ -73,12 +71,20 @@ copy_with options = Copy (lanes_of options) (block_of options) (batch_of options
 abbrev pub copy_form : List (List ℕ) → Option Transfer
 copy_form words = option_map copy_with (folders_form forms.Copy words)
 
+-- the transfer of this name that the words are, if they are a form of it
+abbrev pub transfer_form_of : List ℕ → List (List ℕ) → Option Transfer
+transfer_form_of command words =
+    if bytes_eq command (codes "copy") then copy_form words
+    else if bytes_eq command (codes "send") then send_form words
+    else if bytes_eq command (codes "recv") then recv_form words
+    else None
+
 -- the transfer that the words are, if they are a form of one
 unfoldable pub transfer_of : List (List ℕ) → Option Transfer
 transfer_of [] = None
-transfer_of (command ∷ words) = if bytes_eq command (codes "copy") then copy_form words else None
+transfer_of (command ∷ words) = transfer_form_of command words
 
--- the options of a transfer are within their limits
+-- the options of a copy are within their limits
 pub record IsLimited (lanes block batch : ℕ) : Type 0 where
   pub some_lanes : IsWithin 1 MAX_LANES lanes
   pub some_bytes : IsWithin 1 MAX_BLOCK block
@@ -87,3 +93,5 @@ pub record IsLimited (lanes block batch : ℕ) : Type 0 where
 -- the same of a transfer's own
 abbrev pub HasLimits : Transfer → Type 0
 HasLimits (Copy lanes block batch) = IsLimited lanes block batch
+HasLimits (Send port lanes block session) = IsReachable port lanes × IsWithin 1 MAX_BLOCK block × IsWithin 1 MAX_SESSION session
+HasLimits (Recv port lanes batch) = IsReachable port lanes × IsWithin 1 MAX_BATCH batch

@@ -24,13 +24,8 @@ pub enum Transfer {
         /// From so many bytes on, 1 to 1,073,741,824, what has landed is logged.
         batch: u32,
     },
-}
-
-/// A command that copies to or from another machine, with its options. Each lane has a port of its own:
-/// the port that is given and the lane's number.
-#[derive(Clone, Copy, Debug, PartialEq, Eq)]
-pub enum Remote {
-    /// `send SRC HOST PORT` sends the files of a folder to the receiver that listens there.
+    /// `send SRC HOST PORT` sends the files of a folder to the receiver that listens there. Each lane has
+    /// a port of its own: the port that is given and the lane's number.
     Send {
         /// The port of the first lane, 1 to 65,520.
         port: u16,
@@ -41,7 +36,7 @@ pub enum Remote {
         /// The number of the session, 1 to 2^63 - 1.
         session: u64,
     },
-    /// `recv DST HOST PORT` listens there, and copies what is sent into a folder.
+    /// `recv DST HOST PORT` listens there, on as many ports, and copies what is sent into a folder.
     Recv {
         /// The port of the first lane, 1 to 65,520.
         port: u16,

@@ -1,12 +1,14 @@
 //! The forms of words.
 ghost use Rattle.std.specs.Result.{result_ok};
-ghost use Rattle.std.specs.Prelude.{◌≡◌, map, string_bytes, Err, IfOk, IfSome};
+ghost use Rattle.std.specs.Prelude.{◌≡◌, map, string_bytes, IfOk, IfSome};
 ghost use Rattle.wdt_words.specs.Options.{AreWithin};
-ghost use Rattle.wdt_words.specs.Words.{command_of, copy_form, folders_form, is_name, log_form, plan_form, rehearse_form, transfer_of, HasBlock, HasLimits};
+ghost use Rattle.wdt_words.specs.Words.{command_of, copy_form, folders_form, log_form, plan_form, rehearse_form, transfer_of, HasBlock, HasLimits};
 
 use crate::command::{Command, Transfer};
-use crate::misread::{Expected, Misread};
+use crate::misread::{Expected, Misread, wrong};
+use crate::names::is_name;
 use crate::options::{Form, Options, read_options};
+use crate::remote::{recv_form, send_form};
 
 /// The command that the words are, or None where they are no form of one.
 pub fn command_of(words: &[String]) -> Option<Command>
@@ -111,6 +113,12 @@ pub fn read_transfer(words: &[String]) -> Result<Transfer, Misread>
     if command.as_str() == "copy" {
         return copy_form(words);
     }
+    if command.as_str() == "send" {
+        return send_form(words);
+    }
+    if command.as_str() == "recv" {
+        return recv_form(words);
+    }
     wrong(words.len().saturating_add(1), Expected::Command)
 }
 
@@ -125,22 +133,5 @@ fn copy_form(words: &[String]) -> Result<Transfer, Misread>
             batch: options.batch(),
         }),
         Err(misread) => Err(misread),
-    }
-}
-
-/// Words of which the first wrong one has so many behind it, itself counted.
-pub fn wrong<C>(left: usize, expected: Expected) -> Result<C, Misread>
-    ensures { result ≡ Err (record { left = left; expected = expected }) }
-{
-    Err(Misread { left, expected })
-}
-
-/// Whether a word may name a folder or a host.
-pub fn is_name(word: &str) -> bool
-    ensures { result ≡ is_name word.now }
-{
-    match word.as_bytes() {
-        [] => false,
-        [first, ..] => *first != b'-',
     }
 }

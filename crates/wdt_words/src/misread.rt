@@ -1,4 +1,5 @@
 //! What is wrong with words that are no form of a command.
+ghost use Rattle.std.specs.Prelude.{◌≡◌, Err};
 
 /// The first word that is wrong, and what was expected in its place.
 #[derive(Clone, Copy, Debug, PartialEq, Eq)]
@@ -30,4 +31,11 @@ pub enum Expected {
     /// The value of the option before: a number in decimal digits, without a leading zero, from the
     /// least to the greatest.
     Number { least: u64, greatest: u64 },
+}
+
+/// Words of which the first wrong one has so many behind it, itself counted.
+pub fn wrong<C>(left: usize, expected: Expected) -> Result<C, Misread>
+    ensures { result ≡ Err (record { left = left; expected = expected }) }
+{
+    Err(Misread { left, expected })
 }

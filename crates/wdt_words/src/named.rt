@@ -1,10 +1,9 @@
 //! What a form of a command names.
 ghost use Rattle.std.specs.Prelude.{◌≡◌, map, string_bytes, IfOk};
-ghost use Rattle.wdt_words.specs.Named.{named_at, named_by, named_in, named_of, word_at};
+ghost use Rattle.wdt_words.specs.Named.{named_by, named_in, named_of, word_at};
 
-use crate::command::{Command, Remote, Transfer};
+use crate::command::{Command, Transfer};
 use crate::forms::{command_of, transfer_of};
-use crate::remote::remote_of;
 use std::alloc::{AllocError, Global};
 use std::marker::Model;
 use wdt_units::NoMemory;
@@ -40,11 +39,10 @@ impl Model for Named {
 pub fn folders_of(alloc: Global, words: &[String]) -> Result<Option<Named>, NoMemory>
     ensures { IfOk result (λ found. found ≡ named_of (map string_bytes words.now)) }
 {
-    let made = match (command_of(words), transfer_of(words), remote_of(words)) {
-        (Some(command), _, _) => made_by(alloc, words, command),
-        (None, Some(transfer), _) => made_in(alloc, words, transfer),
-        (None, None, Some(remote)) => made_at(alloc, words, remote),
-        (None, None, None) => return Ok(None),
+    let made = match (command_of(words), transfer_of(words)) {
+        (Some(command), _) => made_by(alloc, words, command),
+        (None, Some(transfer)) => made_in(alloc, words, transfer),
+        (None, None) => return Ok(None),
     };
     match made {
         Ok(named) => Ok(Some(named)),
@@ -74,28 +72,15 @@ fn made_by(alloc: Global, words: &[String], command: Command) -> Result<Named, A
 fn made_in(alloc: Global, words: &[String], transfer: Transfer) -> Result<Named, AllocError>
     ensures { IfOk result (λ named. named ≡ named_in (map string_bytes words.now) transfer) }
 {
-    let Transfer::Copy { lanes, .. } = transfer;
-    Ok(Named {
-        source: String::from_str(alloc, word(words, 1))?,
-        dest: String::from_str(alloc, word(words, 2))?,
-        host: String::new(alloc),
-        port: 0,
-        lanes,
-    })
-}
-
-// What the words of a command to or from another machine name.
-fn made_at(alloc: Global, words: &[String], remote: Remote) -> Result<Named, AllocError>
-    ensures { IfOk result (λ named. named ≡ named_at (map string_bytes words.now) remote) }
-{
-    let (source, dest, port, lanes) = match remote {
-        Remote::Send { port, lanes, .. } => (word(words, 1), "", port, lanes),
-        Remote::Recv { port, lanes, .. } => ("", word(words, 1), port, lanes),
+    let (source, dest, host, port, lanes) = match transfer {
+        Transfer::Copy { lanes, .. } => (word(words, 1), word(words, 2), "", 0, lanes),
+        Transfer::Send { port, lanes, .. } => (word(words, 1), "", word(words, 2), port, lanes),
+        Transfer::Recv { port, lanes, .. } => ("", word(words, 1), word(words, 2), port, lanes),
     };
     Ok(Named {
         source: String::from_str(alloc, source)?,
         dest: String::from_str(alloc, dest)?,
-        host: String::from_str(alloc, word(words, 2))?,
+        host: String::from_str(alloc, host)?,
         port,
         lanes,
     })

@@ -1,11 +1,12 @@
 //! The forms of words that name another machine.
 ghost use Rattle.std.specs.Result.{result_ok};
-ghost use Rattle.std.specs.Prelude.{◌≡◌, map, string_bytes, IfOk, IfSome};
-ghost use Rattle.wdt_words.specs.Remote.{aim_at, aim_form, recv_form, remote_of, send_form, HasRemoteLimits, IsAimed};
+ghost use Rattle.std.specs.Prelude.{◌≡◌, map, string_bytes, IfOk};
+ghost use Rattle.wdt_words.specs.Remote.{aim_at, aim_form, recv_form, send_form, IsAimed};
+ghost use Rattle.wdt_words.specs.Words.{HasLimits};
 
-use crate::command::Remote;
-use crate::forms::{is_name, wrong};
-use crate::misread::{Expected, Misread};
+use crate::command::Transfer;
+use crate::misread::{Expected, Misread, wrong};
+use crate::names::is_name;
 use crate::numbers::number_in;
 use crate::options::{Form, Options, read_options};
 
@@ -19,42 +20,13 @@ pub struct Aim {
     pub options: Options,
 }
 
-/// The command to or from another machine that the words are, or None where they are no form of one.
-pub fn remote_of(words: &[String]) -> Option<Remote>
-    ensures value { result ≡ remote_of (map string_bytes words.now) }
-    ensures limits { IfSome result HasRemoteLimits }
-{
-    match read_remote(words) {
-        Ok(remote) => Some(remote),
-        Err(_) => None,
-    }
-}
-
-/// The command to or from another machine that the words are, or the first that is wrong where they are
-/// no form of one.
-#[tactic(auto, unfolding(crate::specs::Remote::remote_of))]
-pub fn read_remote(words: &[String]) -> Result<Remote, Misread>
-    ensures value { result_ok result ≡ remote_of (map string_bytes words.now) }
-    ensures limits { IfOk result HasRemoteLimits }
-{
-    let [command, words @ ..] = words else {
-        return wrong(0, Expected::Command);
-    };
-    if command.as_str() == "send" {
-        return send_form(words);
-    }
-    if command.as_str() == "recv" {
-        return recv_form(words);
-    }
-    wrong(words.len().saturating_add(1), Expected::Command)
-}
-
-fn send_form(words: &[String]) -> Result<Remote, Misread>
+/// A send by the words behind its name, or the first that is wrong.
+pub fn send_form(words: &[String]) -> Result<Transfer, Misread>
     ensures value { result_ok result ≡ send_form (map string_bytes words.now) }
-    ensures limits { IfOk result HasRemoteLimits }
+    ensures limits { IfOk result HasLimits }
 {
     match aim_form(Form::Send, Expected::Source, words) {
-        Ok(Aim { port, options }) => Ok(Remote::Send {
+        Ok(Aim { port, options }) => Ok(Transfer::Send {
             port,
             lanes: options.lanes(),
             block: options.block(),
@@ -64,12 +36,13 @@ fn send_form(words: &[String]) -> Result<Remote, Misread>
     }
 }
 
-fn recv_form(words: &[String]) -> Result<Remote, Misread>
+/// A receiver by the words behind its name, or the first that is wrong.
+pub fn recv_form(words: &[String]) -> Result<Transfer, Misread>
     ensures value { result_ok result ≡ recv_form (map string_bytes words.now) }
-    ensures limits { IfOk result HasRemoteLimits }
+    ensures limits { IfOk result HasLimits }
 {
     match aim_form(Form::Recv, Expected::Dest, words) {
-        Ok(Aim { port, options }) => Ok(Remote::Recv {
+        Ok(Aim { port, options }) => Ok(Transfer::Recv {
             port,
             lanes: options.lanes(),
             batch: options.batch(),

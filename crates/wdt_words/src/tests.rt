@@ -1,7 +1,7 @@
 //! What no clause says: which word is told to be wrong, and that memory is enough.
 use crate::{
-    Command, Expected, Misread, Remote, Transfer, command_of, folders_of, read_remote,
-    read_transfer, read_words, remote_of, transfer_of,
+    Command, Expected, Misread, Transfer, command_of, folders_of, read_transfer, read_words,
+    transfer_of,
 };
 use std::alloc::Global;
 use std::test::Fail;
@@ -136,7 +136,7 @@ fn forms_name_their_folders(rt: HostRuntime) -> Result<(), Fail> {
 #[test]
 fn the_first_wrong_word_to_another_machine_is_told(rt: HostRuntime) -> Result<(), Fail> {
     let forms: [(&[&str], usize, Expected); 17] = [
-        (&["copy", "a", "b"], 3, Expected::Command),
+        (&["sent", "a", "b"], 3, Expected::Command),
         (&["send"], 0, Expected::Source),
         (&["recv"], 0, Expected::Dest),
         (&["send", "--lanes", "4"], 2, Expected::Source),
@@ -180,7 +180,7 @@ fn the_first_wrong_word_to_another_machine_is_told(rt: HostRuntime) -> Result<()
     ];
     for (texts, left, expected) in forms {
         let words = words_of(rt.alloc(), texts)?;
-        assert_eq!(rt; read_remote(&words), Err(Misread { left, expected }));
+        assert_eq!(rt; read_transfer(&words), Err(Misread { left, expected }));
     }
     Ok(())
 }
@@ -213,8 +213,8 @@ fn forms_name_another_machine(rt: HostRuntime) -> Result<(), Fail> {
     ];
     let (port, lanes, block, session) = (65_520, 4, 16_777_216, 9_223_372_036_854_775_807);
     assert_eq!(rt;
-        remote_of(&words_of(alloc, &send)?),
-        Some(Remote::Send {
+        transfer_of(&words_of(alloc, &send)?),
+        Some(Transfer::Send {
             port,
             lanes,
             block,
@@ -230,8 +230,8 @@ fn forms_name_another_machine(rt: HostRuntime) -> Result<(), Fail> {
     let recv = ["recv", "b", "::", "1", "--batch", "9", "--lanes", "16"];
     let (port, lanes, batch) = (1, 16, 9);
     assert_eq!(rt;
-        remote_of(&words_of(alloc, &recv)?),
-        Some(Remote::Recv { port, lanes, batch })
+        transfer_of(&words_of(alloc, &recv)?),
+        Some(Transfer::Recv { port, lanes, batch })
     );
     let (source, dest, host, port, lanes) = named_in(alloc, &recv)?;
     assert_eq!(rt;

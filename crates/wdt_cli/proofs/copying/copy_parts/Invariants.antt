@@ -1,5 +1,5 @@
 use Rattle.wdt_recv_lanes.specs.Kept.{started_of}
-use Rattle.wdt_cli.specs.Copied.{begun_of}
+use Rattle.wdt_sending.specs.Sending.{begun_of}
 use Rattle.wdt_cli.proofs.copying.copy_parts.Given as goal
 
 -- what the sender's end is opened with

@@ -1,5 +1,5 @@
 use Rattle.wdt_units.specs.Counts.{capped}
-use Rattle.wdt_cli.proofs.Meeting.{met_by}
+use Rattle.wdt_sending.proofs.ForCallers.{met_by}
 use Rattle.wdt_cli.proofs.receiver_side.run_receiver.Goals as goal
 
 pub returns : goal.returns

@@ -1,9 +1,9 @@
 use Rattle.std.proofs.Common.{inr, [], refl, sym, subst}
 use Rattle.wdt_receiver_fsm.specs.Legal.{IsLegal-none, Terms}
 use Rattle.wdt_recv_lanes.specs.Kept.{IsKept}
-use Rattle.wdt_cli.proofs.Meeting.{judged_unlost}
-use Rattle.wdt_cli.specs.Carried.{IsLegalBySome}
-use Rattle.wdt_cli.specs.Judging.{has_some}
+use Rattle.wdt_sending.specs.Judging.{has_some}
+use Rattle.wdt_sending.specs.Leaves.{IsLegalBySome}
+use Rattle.wdt_sending.proofs.ForCallers.{judged_unlost}
 use Rattle.wdt_cli.proofs.receiver_side.take.Goals as goal
 
 pub returns-in-Ok-clause-ends : goal.returns-in-Ok-clause-ends

@@ -1,0 +1,72 @@
+//! A copy that somebody watches on a terminal.
+ghost use Rattle.std.specs.Prelude.{◌≡◌, IfOk};
+ghost use Rattle.wdt_folder.specs.FolderState.{folder_state};
+ghost use Rattle.wdt_folder.specs.Untold.{fresh};
+
+use std::alloc::{AllocError, Global};
+use std::os::unix::fs::FileExt;
+use std::rt::{Clock, Files};
+use wdt_folder::{FolderDepot, FolderSource};
+use wdt_progress::{Come, Progress, Watched};
+use wdt_ranges::Have;
+use wdt_tool::{listed, stored_have};
+
+/// The depot of a copy from one folder into another. Where `is_shown`, a line on standard error tells
+/// how far it is. `Err` is want of memory.
+pub fn watched<R: Files + AllocGlobal + Clock + Eprint + Clone + Drop>(
+    rt: &R,
+    alloc: Global,
+    is_shown: bool,
+    source: &String,
+    dest: String,
+) -> Result<Watched<FolderDepot<R>, R>, AllocError>
+where
+    R::File: FileExt,
+    ensures { IfOk result (λ depot. folder_state depot ≡ fresh) }
+{
+    let progress = if is_shown {
+        progress_of(rt, alloc, source, &dest)?
+    } else {
+        None
+    };
+    Ok(Watched::of(FolderDepot::at(rt.clone()?, dest), progress))
+}
+
+// How far a copy is as it begins. None where the source or the destination's log can't be read: the copy
+// meets that itself.
+fn progress_of<R: Files + AllocGlobal + Clock + Eprint + Clone + Drop>(
+    rt: &R,
+    alloc: Global,
+    source: &String,
+    dest: &String,
+) -> Result<Option<Progress<R>>, AllocError>
+where
+    R::File: FileExt,
+{
+    let mut source = FolderSource::at(rt.clone()?, source.clone()?);
+    let mut depot = FolderDepot::at(rt.clone()?, dest.clone()?);
+    let Ok(manifest) = listed(alloc, &mut source) else {
+        return Ok(None);
+    };
+    let Ok(have) = stored_have(alloc, &mut depot) else {
+        return Ok(None);
+    };
+    let all = Come {
+        files: u64::from(manifest.count()),
+        bytes: manifest.total(),
+    };
+    Ok(Some(Progress::of(rt.clone()?, all, come_in(&have))))
+}
+
+// So many files and bytes have come by a destination's log.
+fn come_in(have: &Have) -> Come {
+    let files = have.files();
+    let mut bytes: u64 = 0;
+    for file in files {
+        bytes = bytes.saturating_add(file.spans.total());
+    }
+    Come {
+        files: files.len() as u64,
+        bytes,
+    }
+}

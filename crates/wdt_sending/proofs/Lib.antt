@@ -1,0 +1,12 @@
+pub mod Early
+pub mod Entries
+pub mod ForCallers
+pub mod Handed
+pub mod Judged
+pub mod Listed
+pub mod Meeting
+pub mod Puts
+pub mod Refusals
+pub mod SentAlone
+pub mod Sources
+pub mod Unopened
