@@ -317,7 +317,9 @@ where
     fn settle_all(&mut self) -> Result<(), Trouble> {
         self.sound()?;
         let alloc = self.rt.alloc();
-        let synced = self.handles.settle_from(alloc, &mut self.syncs, Due::Written);
+        let synced = self
+            .handles
+            .settle_from(alloc, &mut self.syncs, Due::Written);
         self.judge(synced)
     }
 

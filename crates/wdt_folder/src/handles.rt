@@ -332,17 +332,22 @@ impl<F: OpenFile + Drop> Handles<F> {
     }
 }
 
-// The fault of the first file that isn't stable: of one of which a sync has failed, where there is one.
+// The fault of the first file of which a sync has failed: where there is none, of one that isn't synced.
 fn first_fault<F: Drop>(alloc: Global, files: &mut Vec<Handle<F>>) -> Option<Fault> {
+    let at = first_unstable(files)?;
+    files.get_mut(at)?.fault(alloc)
+}
+
+fn first_unstable<F: Drop>(files: &Vec<Handle<F>>) -> Option<usize> {
     let mut untried = None;
     for at in 0..files.len() {
         match files[at].due {
             Due::Synced => {}
-            Due::Failed => return files[at].fault(alloc),
+            Due::Failed => return Some(at),
             _ => untried = Some(at),
         }
     }
-    files.get_mut(untried?)?.fault(alloc)
+    untried
 }
 
 fn not_open(alloc: Global) -> Fault {
