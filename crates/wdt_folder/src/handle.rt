@@ -39,16 +39,16 @@ pub struct Handle<F: Drop> {
 
 impl<F: Drop> Handle<F> {
     // A file that was just opened.
-    pub(crate) fn of(full: String, file: F, writes: bool) -> Handle<F> {
+    pub(crate) fn of(full: String, file: F, writes: bool, due: Due, place: usize) -> Handle<F> {
         Handle {
             full,
             file,
             writes,
-            due: Due::Opened,
+            due,
             failed: None,
             spots: 0,
             is_recent: true,
-            place: 0,
+            place,
         }
     }
 

@@ -1,9 +1,8 @@
 // Files that stay open, by their paths, and the spots on them.
 use crate::handle::{Due, Handle};
-use crate::syncs::Syncs;
 use crate::trouble::{Fault, Trouble};
 use std::alloc::{AllocError, Global};
-use std::fs::OpenFile;
+use std::collections::BTreeSet;
 use std::io::{self, ErrorKind};
 use wdt_units::Spot;
 
@@ -13,11 +12,14 @@ const MOST: usize = 256;
 // So many spots can be entered.
 const SPOTS: usize = 32;
 
+// Of so many closed files it is known that they are stable: more than a batch of small ones has.
+const MOST_CLOSED: usize = 8_192;
+
 // The files that were used lately and those that are entered, each at a place of its own while it is
 // open. Each path has one at most. A spot has the place of its file by its number.
 #[derive(Drop)]
 pub struct Handles<F: Drop> {
-    list: Vec<Option<Handle<F>>>,
+    pub(crate) list: Vec<Option<Handle<F>>>,
     // The places where none is.
     free: Vec<usize>,
     // The places of those that have a path, in the order of the paths.
@@ -26,9 +28,11 @@ pub struct Handles<F: Drop> {
     // Where the next to be closed is looked for.
     hand: usize,
     // Whether a sync may be noted.
-    is_noted: bool,
+    pub(crate) is_noted: bool,
     // Those that are being synced; with room for all, so that a sync takes no memory.
-    leaving: Vec<Handle<F>>,
+    pub(crate) leaving: Vec<Handle<F>>,
+    // The paths of files that were closed behind a sync, with nothing written since. Some may be left out.
+    closed: BTreeSet<String>,
 }
 
 impl<F: Drop> Handles<F> {
@@ -41,6 +45,7 @@ impl<F: Drop> Handles<F> {
             hand: 0,
             is_noted: false,
             leaving: Vec::new(alloc),
+            closed: BTreeSet::new(alloc),
         }
     }
 
@@ -133,18 +138,27 @@ impl<F: Drop> Handles<F> {
         self.leaving.reserve(all)
     }
 
-    // Keeps a file open in place of the path's other one, whose spots are on it from now on. The room
-    // for it was made.
-    pub fn keep(&mut self, full: String, file: F, writes: bool) -> usize {
+    // Keeps a file open in place of the path's other one, whose spots are on it from now on: a new one, which
+    // is open for writing too, or one that stood there, for reading alone. The room for it was made.
+    pub fn keep(&mut self, full: String, file: F, is_new: bool) -> usize {
+        let due = if self.closed.remove(full.as_str()) && !is_new {
+            Due::Synced
+        } else {
+            Due::Opened
+        };
         if let Some(at) = self.find(full.as_str()) {
             if let Some(handle) = self.get(at) {
                 handle.file = file;
-                handle.writes = writes;
-                handle.due = Due::Opened;
+                handle.writes = is_new;
+                handle.due = due;
                 handle.is_recent = true;
             }
             return at;
         }
+        self.add(full, file, is_new, due)
+    }
+
+    fn add(&mut self, full: String, file: F, writes: bool, due: Due) -> usize {
         let at = match self.free.pop() {
             Some(at) => at,
             None => {
@@ -154,14 +168,12 @@ impl<F: Drop> Handles<F> {
             }
         };
         self.list_as(full.as_str(), at);
-        let mut handle = Handle::of(full, file, writes);
-        handle.place = at;
-        self.put(handle);
+        self.put(Handle::of(full, file, writes, due, at));
         at
     }
 
     // Puts a file at its place.
-    fn put(&mut self, handle: Handle<F>) {
+    pub(crate) fn put(&mut self, handle: Handle<F>) {
         if let Some(place) = self.list.get_mut(handle.place) {
             *place = Some(handle);
         }
@@ -192,16 +204,29 @@ impl<F: Drop> Handles<F> {
                 self.order.remove(rank);
             }
         }
-        if let Some(place) = self.list.get_mut(at) {
-            if place.take().is_some() {
-                let _ = self.free.push(at);
+        let Some(place) = self.list.get_mut(at) else {
+            return;
+        };
+        if let Some(handle) = place.take() {
+            let _ = self.free.push(at);
+            if handle.due == Due::Synced {
+                self.remember(handle.full);
             }
         }
+    }
+
+    // Remembers that the closed file of a path is stable, where there is memory for it.
+    fn remember(&mut self, full: String) {
+        if self.closed.len() >= MOST_CLOSED {
+            self.closed.clear();
+        }
+        let _ = self.closed.insert(full);
     }
 
     // Perhaps no path leads to the file of this one any more. It is among the first to be closed, and what
     // is due of it stays due: it may still stand where the call that was to take it away has failed.
     pub fn forget(&mut self, full: &str) {
+        self.closed.remove(full);
         if let Some(at) = self.unlist(full) {
             if let Some(handle) = self.get(at) {
                 handle.full.clear();
@@ -213,6 +238,7 @@ impl<F: Drop> Handles<F> {
     // The file of one path is that of another from now on, in place of the other one's.
     pub fn rename(&mut self, from: &str, to: String) {
         self.forget(to.as_str());
+        self.closed.remove(from);
         if let Some(at) = self.unlist(from) {
             self.list_as(to.as_str(), at);
             if let Some(handle) = self.get(at) {
@@ -225,6 +251,7 @@ impl<F: Drop> Handles<F> {
         self.order.clear();
         self.free.clear();
         self.list.clear();
+        self.closed.clear();
         self.hand = 0;
         self.is_noted = false;
     }
@@ -253,104 +280,8 @@ impl<F: Drop> Handles<F> {
     }
 }
 
-impl<F: OpenFile + Drop> Handles<F> {
-    // Syncs the files that were noted. It takes no memory but for a fault's text.
-    pub fn settle<S: Syncs<F>>(&mut self, alloc: Global, syncs: &mut S) -> Result<(), Fault> {
-        if !self.is_noted {
-            return Ok(());
-        }
-        self.settle_from(alloc, syncs, Due::Noted)
-    }
-
-    // Syncs the files of which so much is due or more, all together. It takes no memory but for a fault's
-    // text.
-    pub fn settle_from<S: Syncs<F>>(
-        &mut self,
-        alloc: Global,
-        syncs: &mut S,
-        least: Due,
-    ) -> Result<(), Fault> {
-        let count = self.take_due(least);
-        syncs.sync(&mut self.leaving);
-        let is_whole = self.leaving.len() == count;
-        let fault = first_fault(alloc, &mut self.leaving);
-        self.put_back();
-        match fault {
-            Some(fault) => Err(fault),
-            None if is_whole => {
-                self.is_noted = false;
-                Ok(())
-            }
-            None => Err(not_open(alloc)),
-        }
-    }
-
-    // Takes out those of which so much is due, and counts them.
-    fn take_due(&mut self, least: Due) -> usize {
-        let mut count: usize = 0;
-        for at in 0..self.list.len() {
-            if self.is_as_due(at, least) {
-                if let Some(handle) = self.list[at].take() {
-                    let _ = self.leaving.push(handle);
-                    count = count.saturating_add(1);
-                }
-            }
-        }
-        count
-    }
-
-    fn is_as_due(&self, at: usize, least: Due) -> bool {
-        match self.list.get(at) {
-            Some(Some(handle)) => handle.due >= least,
-            _ => false,
-        }
-    }
-
-    // Puts back those that were taken out.
-    fn put_back(&mut self) {
-        for _ in 0..self.leaving.len() {
-            match self.leaving.pop() {
-                Some(handle) => self.put(handle),
-                None => break,
-            }
-        }
-    }
-
-    // Syncs a log, also where nothing was written to it.
-    pub fn sync(&mut self, alloc: Global, at: usize) -> Result<(), Fault> {
-        let Some(handle) = self.get(at) else {
-            return Err(not_open(alloc));
-        };
-        if handle.due == Due::Synced {
-            handle.due = Due::Opened;
-        }
-        handle.sync();
-        match handle.fault(alloc) {
-            Some(fault) => Err(fault),
-            None => Ok(()),
-        }
-    }
-}
-
-// The fault of the first file of which a sync has failed: where there is none, of one that isn't synced.
-fn first_fault<F: Drop>(alloc: Global, files: &mut Vec<Handle<F>>) -> Option<Fault> {
-    let at = first_unstable(files)?;
-    files.get_mut(at)?.fault(alloc)
-}
-
-fn first_unstable<F: Drop>(files: &Vec<Handle<F>>) -> Option<usize> {
-    let mut untried = None;
-    for at in 0..files.len() {
-        match files[at].due {
-            Due::Synced => {}
-            Due::Failed => return Some(at),
-            _ => untried = Some(at),
-        }
-    }
-    untried
-}
-
-fn not_open(alloc: Global) -> Fault {
+// The fault of a sync of a file that isn't there.
+pub fn not_open(alloc: Global) -> Fault {
     let reason = io::Error::from(ErrorKind::NotFound);
     Fault::of("syncing", String::new(alloc), reason)
 }

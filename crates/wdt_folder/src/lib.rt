@@ -18,6 +18,7 @@ mod handle;
 mod handles;
 mod names;
 mod paths;
+mod settling;
 mod source;
 mod stops;
 mod syncs;

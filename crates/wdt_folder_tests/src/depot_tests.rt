@@ -123,7 +123,7 @@ fn files_are_synced_together_before_a_log_is_touched(rt: HostRuntime) -> Result<
     Ok(())
 }
 
-const A_FILE_IS_SYNCED_BEFORE_IT_IS_CLOSED: [(Step, &str); 15] = [
+const A_FILE_IS_SYNCED_BEFORE_IT_IS_CLOSED: [(Step, &str); 20] = [
     (Make("a"), "ok: new a"),
     (Write("a", 0, "x"), "ok: write 0..1 a"),
     (Crowd(255), "ok"),
@@ -132,6 +132,15 @@ const A_FILE_IS_SYNCED_BEFORE_IT_IS_CLOSED: [(Step, &str); 15] = [
     (Sync("7"), "ok"),
     (Make("b"), "ok: sync a, sync 5, sync 7, new b"),
     (Make("c"), "ok: new c"),
+    // It isn't synced again behind its opening, unless it is written.
+    (Sync("a"), "ok"),
+    (Make(".wlog"), "ok: fsync .., fsync ., new .wlog"),
+    (Write("a", 0, "y"), "ok: write 0..1 a"),
+    (Sync("a"), "ok"),
+    (
+        Write(".wlog", 0, "x"),
+        "ok: sync a, fsync ., write 0..1 .wlog",
+    ),
     // Also where a call only looks.
     (Reopen, "ok"),
     (Sync("a"), "ok"),
