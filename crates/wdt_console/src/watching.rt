@@ -6,20 +6,24 @@ ghost use Rattle.wdt_folder.specs.Untold.{fresh};
 use std::alloc::{AllocError, Global};
 use std::os::unix::fs::FileExt;
 use std::rt::{Clock, Files};
-use wdt_folder::{FolderDepot, FolderSource};
+use wdt_folder::{FolderDepot, FolderSource, OneByOne, Syncs};
 use wdt_progress::{Come, Progress, Watched};
 use wdt_ranges::Have;
 use wdt_tool::{listed, stored_have};
 
-/// The depot of a copy from one folder into another. Where `is_shown`, a line on standard error tells
-/// how far it is. `Err` is want of memory.
-pub fn watched<R: Files + AllocGlobal + Clock + Eprint + Clone + Drop>(
+/// The depot of a copy from one folder into another, whose files are synced so. Where `is_shown`, a line
+/// on standard error tells how far it is. `Err` is want of memory.
+pub fn watched<
+    R: Files + AllocGlobal + Clock + Eprint + Clone + Drop,
+    S: Syncs<R::File> + Drop,
+>(
     rt: &R,
     alloc: Global,
     is_shown: bool,
     source: &String,
     dest: String,
-) -> Result<Watched<FolderDepot<R>, R>, AllocError>
+    syncs: S,
+) -> Result<Watched<FolderDepot<R, S>, R>, AllocError>
 where
     R::File: FileExt,
     ensures { IfOk result (λ depot. folder_state depot ≡ fresh) }
@@ -29,7 +33,8 @@ where
     } else {
         None
     };
-    Ok(Watched::of(FolderDepot::at(rt.clone()?, dest), progress))
+    let depot = FolderDepot::at(rt.clone()?, dest, syncs);
+    Ok(Watched::of(depot, progress))
 }
 
 // How far a copy is as it begins. None where the source or the destination's log can't be read: the copy
@@ -44,7 +49,7 @@ where
     R::File: FileExt,
 {
     let mut source = FolderSource::at(rt.clone()?, source.clone()?);
-    let mut depot = FolderDepot::at(rt.clone()?, dest.clone()?);
+    let mut depot = FolderDepot::at(rt.clone()?, dest.clone()?, OneByOne);
     let Ok(manifest) = listed(alloc, &mut source) else {
         return Ok(None);
     };
