@@ -14,7 +14,7 @@ use std::sync::Wait;
 use std::thread::Threads;
 use wdt_console::{Failed, explain};
 use wdt_depot::MemDepot;
-use wdt_folder::{Fault, FolderDepot, FolderSource};
+use wdt_folder::{Fault, FolderDepot, FolderSource, Syncs};
 use wdt_net::{NetFault, TcpAccept, TcpDial, tcp_accepts, tcp_dials};
 use wdt_progress::Cleared;
 use wdt_sending::Carried;
@@ -89,7 +89,7 @@ fn dial_fault<R: Net<Listener = TcpListener, Stream = TcpStream> + Clock + Drop>
 }
 
 /// Listens at the words' host, on a port for each lane from `port` on, receives into their folder what is
-/// sent, and says on standard error what went wrong. `Err` is want of memory.
+/// sent, where files are synced so, and says on standard error what went wrong. `Err` is want of memory.
 pub fn recv_folder<
     R: Threads
         + Wait
@@ -102,6 +102,7 @@ pub fn recv_folder<
         + Drop
         + Send
         + Sync,
+    S: Syncs<R::File> + Drop + Send + Sync,
     W: io::Write + Drop,
 >(
     rt: &R,
@@ -110,6 +111,7 @@ pub fn recv_folder<
     named: Named,
     port: u16,
     lanes: u8,
+    syncs: S,
     out: &mut Cleared<ToWrite<W>, R>,
 ) -> Result<Status, AllocError>
 where
@@ -123,7 +125,7 @@ where
     let Ok(acceptors) = tcp_accepts::<R, Untold>(rt, alloc, &host, port, lanes) else {
         return Err(AllocError);
     };
-    let depot = FolderDepot::at(rt.clone()?, dest);
+    let depot = FolderDepot::at(rt.clone()?, dest, syncs);
     let sources: Vec<FolderSource<R>> = Vec::new(alloc);
     let nobody: Vec<TcpDial<R, Untold>> = Vec::new(alloc);
     let carried = carry::<R, Untold, _, _, _, _, _>(
@@ -140,8 +142,8 @@ where
 }
 
 // The fault of the destination, where it came back.
-fn disk_fault<R: Files + AllocGlobal + Clone + Drop>(
-    depot: &Option<FolderDepot<R>>,
+fn disk_fault<R: Files + AllocGlobal + Clone + Drop, S: Syncs<R::File> + Drop>(
+    depot: &Option<FolderDepot<R, S>>,
 ) -> Option<&Fault>
 where
     R::File: FileExt,

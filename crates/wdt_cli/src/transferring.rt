@@ -13,7 +13,7 @@ use std::rt::{Clock, Files};
 use std::sync::Wait;
 use std::thread::Threads;
 use wdt_console::{Hold, lie_apart, take_hold};
-use wdt_folder::{FolderSource, OneLine};
+use wdt_folder::{FolderSource, InThreads, OneLine};
 use wdt_progress::Cleared;
 use wdt_tool::Status;
 use wdt_units::{Sink, ToWrite};
@@ -66,13 +66,15 @@ where
     };
     match command {
         Transfer::Copy { lanes, .. } => {
-            copy_folders(rt, alloc, words, named, lanes, is_shown, &mut out)
+            let syncs = InThreads::of(rt.clone()?);
+            copy_folders(rt, alloc, words, named, lanes, syncs, is_shown, &mut out)
         }
         Transfer::Send { port, lanes, .. } => {
             send_folder(rt, alloc, words, named, port, lanes, &mut out)
         }
         Transfer::Recv { port, lanes, .. } => {
-            recv_folder(rt, alloc, words, named, port, lanes, &mut out)
+            let syncs = InThreads::of(rt.clone()?);
+            recv_folder(rt, alloc, words, named, port, lanes, syncs, &mut out)
         }
     }
 }
