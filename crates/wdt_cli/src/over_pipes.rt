@@ -14,7 +14,7 @@ use std::thread::Threads;
 use wdt_console::{Failed, explain, watched};
 use wdt_folder::{FolderDepot, FolderSource, Syncs};
 use wdt_pipes::pipe_ends;
-use wdt_progress::{Cleared, Watched};
+use wdt_progress::{Cleared, Watched, WatchedSource};
 use wdt_sending::Carried;
 use wdt_tool::Status;
 use wdt_tree::Untold;
@@ -44,7 +44,8 @@ where
     requires { IfSome (transfer_of (map string_bytes words.now)) (λ transfer. IsServed transfer lanes lanes lanes) }
 {
     let Named { source, dest, .. } = named;
-    let sources = sources_of(rt, alloc, &source, lanes)?;
+    // What has come is counted at the destination.
+    let sources = sources_of(rt, alloc, &source, lanes, &None)?;
     let depot = watched(rt, alloc, is_shown, &source, dest, syncs)?;
     let (no_dials, no_accepts) = (Vec::new(alloc), Vec::new(alloc));
     let ends = pipe_ends::<R, Untold>(rt.clone()?, alloc, lanes, no_dials, no_accepts);
@@ -68,7 +69,7 @@ fn explain_copy<
 >(
     rt: &R,
     alloc: Global,
-    carried: &Carried<FolderSource<R>, Watched<FolderDepot<R, S>, R>, C, A>,
+    carried: &Carried<WatchedSource<FolderSource<R>, R>, Watched<FolderDepot<R, S>, R>, C, A>,
     words: &[String],
     out: Option<&io::Error>,
 )
