@@ -149,10 +149,7 @@ where
 }
 
 // The fault of the destination, where it came back.
-fn disk_fault<
-    R: Files + AllocGlobal + Clock + Eprint + Clone + Drop,
-    S: Syncs<R::File> + Drop,
->(
+fn disk_fault<R: Files + AllocGlobal + Clock + Eprint + Clone + Drop, S: Syncs<R::File> + Drop>(
     depot: &Option<Watched<FolderDepot<R, S>, R>>,
 ) -> Option<&Fault>
 where
