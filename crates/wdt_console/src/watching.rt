@@ -14,10 +14,7 @@ use wdt_tool::{listed, stored_have};
 
 /// The depot of a copy from one folder into another, whose files are synced so. Where `is_shown`, a line
 /// on standard error tells how far it is. `Err` is want of memory.
-pub fn watched<
-    R: Files + AllocGlobal + Clock + Eprint + Clone + Drop,
-    S: Syncs<R::File> + Drop,
->(
+pub fn watched<R: Files + AllocGlobal + Clock + Eprint + Clone + Drop, S: Syncs<R::File> + Drop>(
     rt: &R,
     alloc: Global,
     is_shown: bool,
