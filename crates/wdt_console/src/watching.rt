@@ -7,20 +7,21 @@ use std::alloc::{AllocError, Global};
 use std::os::unix::fs::FileExt;
 use std::rt::{Clock, Files};
 use std::sync::Arc;
-use wdt_folder::{FolderDepot, FolderSource};
+use wdt_folder::{FolderDepot, FolderSource, OneByOne, Syncs};
 use wdt_progress::{Come, Deed, Progress, Watched};
 use wdt_ranges::Have;
 use wdt_tool::{listed, stored_have};
 
-/// The depot of a copy from one folder into another. Where `is_shown`, a line on standard error tells
-/// how far it is. `Err` is want of memory.
-pub fn watched<R: Files + AllocGlobal + Clock + Eprint + Clone + Drop>(
+/// The depot of a copy from one folder into another, whose files are synced so. Where `is_shown`, a line
+/// on standard error tells how far it is. `Err` is want of memory.
+pub fn watched<R: Files + AllocGlobal + Clock + Eprint + Clone + Drop, S: Syncs<R::File> + Drop>(
     rt: &R,
     alloc: Global,
     is_shown: bool,
     source: &String,
     dest: String,
-) -> Result<Watched<FolderDepot<R>, R>, AllocError>
+    syncs: S,
+) -> Result<Watched<FolderDepot<R, S>, R>, AllocError>
 where
     R::File: FileExt,
     ensures { IfOk result (λ depot. folder_state depot ≡ fresh) }
@@ -30,22 +31,28 @@ where
     } else {
         None
     };
-    Ok(Watched::of(FolderDepot::at(rt.clone()?, dest), progress))
+    let depot = FolderDepot::at(rt.clone()?, dest, syncs);
+    Ok(Watched::of(depot, progress))
 }
 
-/// The depot of a receiver into a folder. Where `is_shown`, a line on standard error tells how much has
-/// come; the whole isn't known at this end. `Err` is want of memory.
-pub fn watched_arrival<R: Files + AllocGlobal + Clock + Eprint + Clone + Drop>(
+/// The depot of a receiver into a folder, whose files are synced so. Where `is_shown`, a line on standard
+/// error tells how much has come; the whole isn't known at this end. `Err` is want of memory.
+pub fn watched_arrival<
+    R: Files + AllocGlobal + Clock + Eprint + Clone + Drop,
+    S: Syncs<R::File> + Drop,
+>(
     rt: &R,
     is_shown: bool,
     dest: String,
-) -> Result<Watched<FolderDepot<R>, R>, AllocError>
+    syncs: S,
+) -> Result<Watched<FolderDepot<R, S>, R>, AllocError>
 where
     R::File: FileExt,
     ensures { IfOk result (λ depot. folder_state depot ≡ fresh) }
 {
     let progress = begun(rt, is_shown, Deed::Received)?;
-    Ok(Watched::of(FolderDepot::at(rt.clone()?, dest), progress))
+    let depot = FolderDepot::at(rt.clone()?, dest, syncs);
+    Ok(Watched::of(depot, progress))
 }
 
 /// What the sources of a send count into, so that a line on standard error tells how far it is. None where
@@ -90,7 +97,7 @@ where
     R::File: FileExt,
 {
     let mut source = FolderSource::at(rt.clone()?, source.clone()?);
-    let mut depot = FolderDepot::at(rt.clone()?, dest.clone()?);
+    let mut depot = FolderDepot::at(rt.clone()?, dest.clone()?, OneByOne);
     let Ok(manifest) = listed(alloc, &mut source) else {
         return Ok(None);
     };
