@@ -3,40 +3,17 @@
 # of 1 GiB, 20,000 files of 4 KiB and a mixed tree, each onto the disk and onto a tmpfs, all of them run
 # alternately. Each run is timed twice: until the command has ended, and until a `sync -f` of what it made
 # has returned. Prints the medians in milliseconds, their ratios to `cp`, and wdt's peak memory; and how
-# much longer twice the small files take. Needs rsync.
-# usage: bench/copy.sh [FOLDER] [TMPFS FOLDER]
+# much longer twice the small files take. --only takes the trees large, small, mixed and the places disk,
+# tmpfs. Needs rsync.
+# usage: bench/copy.sh [FOLDER] [TMPFS FOLDER] [--rounds N] [--only PART,PART..]
 set -eu
-here=$(CDPATH= cd -- "$(dirname -- "$0")/.." && pwd)
+here=$(CDPATH='' cd -- "$(dirname -- "$0")/.." && pwd)
 . "$here/bench/common.sh"
-wdt=$("$here/wdt" --which)
-scratch=$(folder_below "${1:-$here/out/bench}")
-memory=$(folder_below "${2:-/dev/shm}")
+read_words 'large small mixed disk tmpfs' "$@"
+wdt=$(program)
+scratch=$(folder_below "$folder")
+memory=$(folder_below "$tmpfs")
 tools='cp rsync rsync-fsync wdt-1 wdt-4 wdt-4-large'
-
-# large N: N files of 256 MiB; small N: N files of 4 KiB, 100 to a folder; mixed N: both, of a tenth, and
-# empty files.
-large() {
-    mkdir -p "$scratch/$1"
-    for i in $(seq "$2"); do
-        head -c "$3" /dev/urandom >"$scratch/$1/file$i"
-    done
-}
-small() {
-    head -c 4096 /dev/urandom >"$scratch/piece"
-    for i in $(seq $(($2 / 100))); do
-        mkdir -p "$scratch/$1/folder$i"
-        for k in $(seq 100); do
-            cp "$scratch/piece" "$scratch/$1/folder$i/file$k"
-        done
-    done
-}
-mixed() {
-    large "$1" 3 67108864
-    small "$1" 2000
-    for i in $(seq 100); do
-        : >"$scratch/$1/empty$i"
-    done
-}
 
 # Copies the folder of a name to a new one with a tool.
 copy() {
@@ -52,6 +29,7 @@ copy() {
 
 # One run: appends its two times, in microseconds.
 run() {
+    sync -f "$3"
     from=$(date +%s%N)
     copy "$1" "$scratch/$2" "$3/copy"
     to=$(date +%s%N)
@@ -81,16 +59,36 @@ compare() {
     done
 }
 
-large one 1 1073741824
-small small20000 20000
-small small10000 10000
-mixed mixed
-for tree in one small20000 small10000 mixed; do
-    compare "$tree" disk "$scratch"
-    compare "$tree" tmpfs "$memory"
+trees=
+for tree in $(chosen large small mixed); do
+    case $tree in
+    large)
+        large one 1 1073741824
+        trees="$trees one"
+        ;;
+    small)
+        small small20000 20000
+        small small10000 10000
+        trees="$trees small20000 small10000"
+        ;;
+    mixed)
+        mixed mixed
+        trees="$trees mixed"
+        ;;
+    esac
 done
-for tree in one small20000 mixed; do
+load
+for tree in $trees; do
+    for where in $(chosen disk tmpfs); do
+        case $where in
+        disk) compare "$tree" disk "$scratch" ;;
+        tmpfs) compare "$tree" tmpfs "$memory" ;;
+        esac
+    done
+done
+for tree in $trees; do
     peak=$(peak_of "$wdt" copy "$scratch/$tree" "$memory/copy")
     rm -rf -- "$memory/copy"
     echo "$tree: peak memory of wdt $peak KiB"
 done
+load

@@ -10,19 +10,13 @@
 # it as the third word the same faults come again. Needs python3.
 # usage: bench/faults.sh [FOLDER] [RUNS] [SEED]
 set -eu
-here=$(CDPATH= cd -- "$(dirname -- "$0")/.." && pwd)
+here=$(CDPATH='' cd -- "$(dirname -- "$0")/.." && pwd)
 . "$here/bench/common.sh"
-wdt=$("$here/wdt" --which)
+wdt=$(program)
 scratch=$(folder_below "${1:-$here/out/bench}")
 rounds=${2:-100}
 seed=${3:-$(random)}
 block=262144
-# What is started here and may still run. No session takes more seconds than the limit.
-recv=
-proxy=
-send=
-limit=240
-trap 'kill $recv $proxy $send 2>/dev/null || :; rm -rf -- ${scratch:+"$scratch"}' EXIT
 
 fail() {
     echo "bench/faults.sh: run $done of seed $seed ($style, $lanes lanes, batch $batch): $1" >&2
@@ -60,15 +54,6 @@ is_same() { diff -r -x .wlog -x .wlog.new "$tree" "$dest" >"$scratch/differs"; }
 # The number that stands behind a word in what a command printed.
 told() { sed -n "s/^$2 //p" "$scratch/$1.lines"; }
 
-# Starts a command in the background; its own number stands in a file.
-start() {
-    name=$1
-    shift
-    rm -f -- "$scratch/$name.pid"
-    timeout "$limit" sh -c 'echo $$ >"$0"; exec "$@"' "$scratch/$name.pid" "$@" \
-        >"$scratch/$name.lines" 2>"$scratch/$name.faults" &
-}
-
 # One session by a style of the proxy's, in which the receiver may be killed behind so many bytes. Leaves
 # both ends' statuses in $sent and $received.
 session() {
@@ -81,14 +66,11 @@ session() {
     start send "$wdt" send "$tree" 127.0.0.1 "$from" --lanes "$lanes" --block "$block" --session "$number"
     send=$!
     sent=0
-    wait "$send" || sent=$?
-    send=
+    finish "$send" || sent=$?
     kill -TERM "$proxy"
     received=0
-    wait "$recv" || received=$?
-    recv=
-    wait "$proxy" || fail 'the proxy failed'
-    proxy=
+    finish "$recv" || received=$?
+    finish "$proxy" || fail 'the proxy failed'
     cuts=$(told proxy cuts)
     all_cuts=$((all_cuts + cuts))
     all_stalls=$((all_stalls + $(told proxy stalls)))

@@ -8,9 +8,9 @@
 # The last part is for root alone: it mounts a small tmpfs, and runs wdt as nobody.
 # usage: bench/kill.sh [FOLDER] [ROUNDS]
 set -eu
-here=$(CDPATH= cd -- "$(dirname -- "$0")/.." && pwd)
+here=$(CDPATH='' cd -- "$(dirname -- "$0")/.." && pwd)
 . "$here/bench/common.sh"
-wdt=$("$here/wdt" --which)
+wdt=$(program)
 scratch=$(folder_below "${1:-$here/out/bench}")
 rounds=${2:-200}
 block=1048576
@@ -54,9 +54,6 @@ copy_whole() {
     [ "$(tail -n 1 "$scratch/lines")" = ok ] || fail "the last line isn't ok"
     is_same "$1" || fail "the trees differ: $(head -n 1 "$scratch/differs")"
 }
-
-# A number from 0 to 65,535.
-random() { od -An -N2 -tu2 /dev/urandom | tr -d ' '; }
 
 # How long a whole copy takes, in milliseconds.
 from=$(date +%s%N)
@@ -113,13 +110,14 @@ as_nobody() { setpriv --reuid=65534 --regid=65534 --clear-groups "$@"; }
 
 # A disk that is full, and then isn't.
 mkdir "$scratch/disk"
-mount -t tmpfs -o size=16m wdt-kill "$scratch/disk"
-trap 'umount "$scratch/disk" 2>/dev/null || :; rm -rf -- ${scratch:+"$scratch"}' EXIT
+mounted=$scratch/disk
+mount -t tmpfs -o size=16m wdt-kill "$mounted"
 copy_fails 3 'disk fault' "$wdt" copy "$tree" "$scratch/disk/dest" --block "$block"
 planned "$scratch/disk/dest" >/dev/null
 mount -o remount,size=128m "$scratch/disk"
 copy_whole "$scratch/disk/dest"
-umount "$scratch/disk"
+umount "$mounted"
+mounted=
 
 # A file that can't be read, and then can; a destination that can't be written to, and then can.
 chmod 0755 "$scratch"

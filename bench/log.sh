@@ -6,9 +6,9 @@
 # logs.
 # usage: bench/log.sh [FOLDER]
 set -eu
-here=$(CDPATH= cd -- "$(dirname -- "$0")/.." && pwd)
+here=$(CDPATH='' cd -- "$(dirname -- "$0")/.." && pwd)
 . "$here/bench/common.sh"
-wdt=$("$here/wdt" --which)
+wdt=$(program)
 scratch=$(folder_below "${1:-$here/out/bench}")
 
 # In $scratch/ORDER-N a log of N thousand spans of 4,096 bytes each, every other one of a file. Those

@@ -3,29 +3,11 @@
 # on half of each. Prints the medians in milliseconds, their ratio, and wdt's peak memory.
 # usage: bench/rehearse.sh [FOLDER] [TMPFS FOLDER]
 set -eu
-here=$(CDPATH= cd -- "$(dirname -- "$0")/.." && pwd)
+here=$(CDPATH='' cd -- "$(dirname -- "$0")/.." && pwd)
 . "$here/bench/common.sh"
-wdt=$("$here/wdt" --which)
+wdt=$(program)
 scratch=$(folder_below "${1:-$here/out/bench}")
 memory=$(folder_below "${2:-/dev/shm}")
-
-# large N: N files of 64 MiB; small N: N files of 4 KiB, 100 to a folder.
-large() {
-    mkdir "$scratch/large$1"
-    for i in $(seq "$1"); do
-        head -c 67108864 /dev/urandom >"$scratch/large$1/file$i"
-    done
-}
-small() {
-    mkdir "$scratch/small$1"
-    head -c 4096 /dev/urandom >"$scratch/piece"
-    for i in $(seq $(($1 / 100))); do
-        mkdir "$scratch/small$1/folder$i"
-        for k in $(seq 100); do
-            cp "$scratch/piece" "$scratch/small$1/folder$i/file$k"
-        done
-    done
-}
 
 # The medians of cp and wdt on a folder, run alternately, and their ratio.
 compare() {
@@ -41,10 +23,10 @@ compare() {
         printf "%-12s cp %8.1f ms  wdt %8.1f ms  ratio %.2f  peak %s KiB\n", name, c / 1000, w / 1000, w / c, p }'
 }
 
-large 8
-large 4
-small 20000
-small 10000
+large large8 8 67108864
+large large4 4 67108864
+small small20000 20000
+small small10000 10000
 for name in large4 large8 small10000 small20000; do
     compare "$name"
 done
