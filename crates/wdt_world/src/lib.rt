@@ -1,0 +1,10 @@
+//! A sender's end, a receiver's end and their connections, in one object and in one thread.
+//!
+//! What happens in it is what happens in a world by messages (`wdt_pact`): each call says that whatever
+//! world it showed before, it shows behind it the one that follows. `specs/Said` says what a sender says
+//! with its bytes, `specs/Shown` when a wire shows a connection, and `specs/Finding` what is found there.
+#![tactic(auto)]
+
+mod laws;
+
+pub use laws::wires_show_connections;
