@@ -1,9 +1,12 @@
 -- The connections of a lane in bytes, and what becomes of them.
-use Rattle.std.specs.Prelude.{◌≡◌, ℕ, ◌-◌, nat_lt, ◌||◌, not, Bool, true, if◌then◌else◌, List, [], ◌∷◌, ◌++◌, is_some, Option, Some, None, option_map}
+use Rattle.std.specs.Prelude.{◌≡◌, ℕ, ◌-◌, nat_lt, ◌||◌, not, Bool, true, false, if◌then◌else◌, List, [], ◌∷◌, ◌++◌, is_some, map, Option, Some, None, option_map}
+use Rattle.wdt_receiver_fsm.specs.declared.inputs.RecvIn.{RecvIn}
+use Rattle.wdt_receiver_fsm.specs.declared.inputs.RecvIn.TheVariants as inputs
+use Rattle.wdt_wire.specs.declared.side.Side.{Side}
 use Rattle.wdt_wire.specs.declared.side.Side.TheVariants.{Down, Up}
 use Rattle.wdt_wire.specs.declared.taken.Taken.{Taken}
 use Rattle.wdt_wire.specs.declared.taken.Taken.TheVariants as found
-use Rattle.wdt_wire.specs.Wires.{PlainWire, left_by, new_wire}
+use Rattle.wdt_wire.specs.Wires.{PlainWire, can_write, left_by, new_wire}
 
 -- The connection that the receiver's lane took last, those that wait for it, the oldest first, but for the newest,
 -- and the newest, which is the sender's; where none waits, that is the taken one. So many further tries to make one
@@ -53,14 +56,9 @@ left_down wire = left_by wire Down
 abbrev pub left_up : PlainWire → PlainWire
 left_up wire = left_by wire Up
 
--- each of some becomes so
-abbrev pub each_wire : (PlainWire → PlainWire) → List PlainWire → List PlainWire
-each_wire f [] = []
-each_wire f (wire ∷ wires) = f wire ∷ each_wire f wires
-
 -- the receiver leaves all
 abbrev pub all_left_up : LinesView → LinesView
-all_left_up v = record v { taken = option_map left_up v.taken; between = each_wire left_up v.between; newest = option_map left_up v.newest }
+all_left_up v = record v { taken = option_map left_up v.taken; between = map left_up v.between; newest = option_map left_up v.newest }
 
 -- ---- a connection is made
 
@@ -108,6 +106,13 @@ newest_behind (wire ∷ wires) newest = newest
 abbrev pub taken_next : LinesView → LinesView
 taken_next v = record v { taken = first_of v.between v.newest v.taken; between = behind_first v.between; newest = newest_behind v.between v.newest }
 
+-- what came of a try to take one: it was refused, one was taken, or none will come; or nothing
+abbrev pub accepts : (is_refused waits has_stopped : Bool) → Option RecvIn
+accepts true waits has_stopped = Some inputs.NoLink
+accepts false true has_stopped = Some inputs.Linked
+accepts false false true = Some inputs.NoLink
+accepts false false false = None
+
 -- behind a try to take one
 abbrev pub accepted : LinesView → LinesView
 accepted v = if nat_lt 0 v.refusals then record v { refusals = v.refusals - 1 } else taken_next v
@@ -119,3 +124,32 @@ abbrev pub FindsOn : (Taken → PlainWire → PlainWire → Type 0) → Taken �
 FindsOn Finds taken None new = (taken ≡ found.Nothing) × (new ≡ None)
 FindsOn Finds taken (Some old) None = ⊥
 FindsOn Finds taken (Some old) (Some new) = Finds taken old new
+
+-- ---- what becomes of one connection
+
+-- the taken one, where the sender's is now this
+abbrev pub put_taken : Option PlainWire → (top taken : Option PlainWire) → Option PlainWire
+put_taken None top taken = top
+put_taken (Some wire) top taken = taken
+
+-- the newest that waits, where the sender's is now this
+abbrev pub put_newest : Option PlainWire → Option PlainWire → Option PlainWire
+put_newest None top = None
+put_newest (Some wire) top = top
+
+-- the sender's connection is now this
+abbrev pub with_top_wire : Option PlainWire → LinesView → LinesView
+with_top_wire top v = record v { taken = put_taken v.newest top v.taken; newest = put_newest v.newest top }
+
+-- the taken one is now this
+abbrev pub with_taken : Option PlainWire → LinesView → LinesView
+with_taken taken v = record v { taken = taken }
+
+-- a write in this direction works, where there is a connection
+abbrev pub can_write_on : Option PlainWire → Side → Bool
+can_write_on None side = false
+can_write_on (Some wire) side = can_write wire side
+
+-- the taken one becomes so
+abbrev pub taken_on : (PlainWire → PlainWire) → LinesView → LinesView
+taken_on f v = record v { taken = option_map f v.taken }

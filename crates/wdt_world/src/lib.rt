@@ -6,5 +6,6 @@
 #![tactic(auto)]
 
 mod laws;
+mod lines;
 
 pub use laws::wires_show_connections;
