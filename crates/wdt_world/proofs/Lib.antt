@@ -2,3 +2,6 @@ pub mod Fronts
 pub mod Readings
 pub mod Showing
 pub mod Lining
+pub mod Putting
+pub mod Listening
+pub mod Telling

@@ -74,7 +74,7 @@ on_top_newest f g keeps s r (Some w) ptaken (Some t) k new is = subst (λ (j : L
   same e = cc
 
 -- whether a newest waits is as before
-put_left : (pnewest : Option Link) (k : Link) (held : SendHold) → send_left pnewest held ≡ send_left (pairs.put_newest pnewest k) held
+pub put_left : (pnewest : Option Link) (k : Link) (held : SendHold) → send_left pnewest held ≡ send_left (pairs.put_newest pnewest k) held
 put_left None k held = refl
 put_left (Some t) k held = refl
 

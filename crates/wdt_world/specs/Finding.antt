@@ -1,5 +1,5 @@
 -- What is found on a wire, by the messages of its connection.
-use Rattle.std.specs.Prelude.{◌≡◌, ℕ, ◌||◌, Bool, true, false, List, [], ◌∷◌, length, Some, None}
+use Rattle.std.specs.Prelude.{◌≡◌, ℕ, ◌||◌, Bool, true, false, List, [], ◌∷◌, length, Some, None, Option}
 use Rattle.wdt_codec.specs.declared.frames.Frame.{Frame}
 use Rattle.wdt_sender_fsm.specs.Phases.{Message, Framed, Piece}
 use Rattle.wdt_wire.specs.declared.taken.Taken.{Taken}
@@ -34,3 +34,8 @@ abbrev pub BeginsWithPiece : ℕ → List Message → Type 0
 BeginsWithPiece n [] = Unit {0}
 BeginsWithPiece n (Framed frame ∷ rest) = ⊥
 BeginsWithPiece n (Piece m ∷ rest) = m ≡ n
+
+-- the same of what goes down on a connection that may be there
+abbrev pub BeginsOn : (List Message → Type 0) → Option Link → Type 0
+BeginsOn Begins None = Unit {0}
+BeginsOn Begins (Some k) = Begins k.down.sent

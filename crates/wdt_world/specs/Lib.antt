@@ -3,3 +3,5 @@ pub mod Shown
 pub mod Finding
 pub mod Lines
 pub mod Pairing
+pub mod Hands
+pub mod Heard

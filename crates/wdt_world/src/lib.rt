@@ -5,7 +5,10 @@
 //! with its bytes, `specs/Shown` when a wire shows a connection, and `specs/Finding` what is found there.
 #![tactic(auto)]
 
+mod hands;
+mod hearing;
 mod laws;
 mod lines;
+mod speaking;
 
 pub use laws::wires_show_connections;

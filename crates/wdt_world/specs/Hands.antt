@@ -1,0 +1,41 @@
+-- What the lanes hold, as a lane by messages holds it, and what came of an act.
+use Rattle.std.specs.Prelude.{◌≡◌, length, Option, Some, None}
+use Rattle.wdt_sender_fsm.specs.declared.inputs.SendIn.{SendIn}
+use Rattle.wdt_pact.specs.Pairs.{Pair, RecvDoes, RecvHas, RecvHold, RecvTook, SendDoes, SendHas, SendHold}
+use Rattle.wdt_world.specs.declared.hands.RecvHand.{RecvHand}
+use Rattle.wdt_world.specs.declared.hands.RecvHand.TheVariants as recv
+use Rattle.wdt_world.specs.declared.hands.SendHand.{SendHand}
+use Rattle.wdt_world.specs.declared.hands.SendHand.TheVariants as send
+use Rattle.wdt_world.specs.Lines.{LinesView}
+use Rattle.wdt_world.specs.Pairing.{ShowsLines}
+
+-- what a sender's lane holds
+abbrev pub send_held : SendHand → SendHold
+send_held (send.Does act) = SendDoes act
+send_held (send.Has input) = SendHas input
+
+-- what a receiver's lane holds: of a piece its length
+abbrev pub recv_held : RecvHand → RecvHold
+recv_held (recv.Does act) = RecvDoes act
+recv_held (recv.Has input) = RecvHas input
+recv_held (recv.Took bytes) = RecvTook (length bytes.items)
+
+-- what a lane holds behind an act of which this came, or nothing
+abbrev pub send_behind : SendHold → Option SendIn → SendHold
+send_behind old None = old
+send_behind old (Some input) = SendHas input
+
+-- the same of the receiver's
+abbrev pub recv_behind : RecvHold → Option RecvHand → RecvHold
+recv_behind old None = old
+recv_behind old (Some hand) = recv_held hand
+
+-- this came of an act of the sender's lane: it is what the pair behind it holds, and the connections are the pair's
+pub record Sends (old : SendHold) (answer : Option SendIn) (v : LinesView) (q : Pair) : Type 0 where
+  pub told : q.send ≡ send_behind old answer
+  pub shows : ShowsLines v q
+
+-- the same of the receiver's lane
+pub record Receives (old : RecvHold) (answer : Option RecvHand) (v : LinesView) (q : Pair) : Type 0 where
+  pub told : q.recv ≡ recv_behind old answer
+  pub shows : ShowsLines v q
