@@ -5,3 +5,5 @@ pub mod Lining
 pub mod Putting
 pub mod Listening
 pub mod Telling
+pub mod Pieces
+pub mod Blocking

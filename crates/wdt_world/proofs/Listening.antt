@@ -27,7 +27,7 @@ use Rattle.wdt_world.proofs.Showing.{found_down, found_piece, found_up}
 -- ---- the sender's lane
 
 -- the sender's connection of a pair, put where it is
-top_same : (p : Pair) (k : Link) → top p ≡ Some k → with_top p k ≡ p
+pub top_same : (p : Pair) (k : Link) → top p ≡ Some k → with_top p k ≡ p
 top_same p k is = same p.taken p.newest is where
   same : (taken newest : Option Link) → pairs.top_by newest taken ≡ Some k → record p { taken = pairs.put_taken newest taken k; newest = pairs.put_newest newest k } ≡ record p { taken = taken; newest = newest }
   same taken None is = ap (λ (t : Option Link). record p { taken = t; newest = None }) (sym is)

@@ -26,7 +26,7 @@ use Rattle.wdt_world.proofs.Showing.{works_down, works_up, wrote_down, wrote_up}
 -- ---- the sender
 
 -- a write leaves that the lane hasn't stopped
-wrote_goes : (b : Bool) → send_stops (SendHas (wrote_or_lost b)) ≡ false
+pub wrote_goes : (b : Bool) → send_stops (SendHas (wrote_or_lost b)) ≡ false
 wrote_goes true = refl
 wrote_goes false = refl
 

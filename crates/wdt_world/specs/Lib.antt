@@ -5,3 +5,4 @@ pub mod Lines
 pub mod Pairing
 pub mod Hands
 pub mod Heard
+pub mod Blocks

@@ -9,6 +9,7 @@ mod hands;
 mod hearing;
 mod laws;
 mod lines;
+mod sending;
 mod speaking;
 
 pub use laws::wires_show_connections;
