@@ -7,3 +7,4 @@ pub mod Listening
 pub mod Telling
 pub mod Pieces
 pub mod Blocking
+pub mod Performing

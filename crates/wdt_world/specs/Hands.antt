@@ -1,6 +1,11 @@
 -- What the lanes hold, as a lane by messages holds it, and what came of an act.
-use Rattle.std.specs.Prelude.{◌≡◌, length, Option, Some, None}
+use Rattle.std.specs.Prelude.{◌≡◌, Bool, true, false, length, Option, Some, None}
+use Rattle.wdt_sender_fsm.specs.declared.acts.SendAct.TheVariants as acts
 use Rattle.wdt_sender_fsm.specs.declared.inputs.SendIn.{SendIn}
+use Rattle.wdt_sender_fsm.specs.declared.inputs.SendIn.TheVariants as inputs
+use Rattle.wdt_receiver_fsm.specs.declared.acts.RecvAct.{RecvAct}
+use Rattle.wdt_receiver_fsm.specs.declared.acts.RecvAct.TheVariants as recv_acts
+use Rattle.wdt_receiver_fsm.specs.declared.inputs.RecvIn.{RecvIn}
 use Rattle.wdt_pact.specs.Pairs.{Pair, RecvDoes, RecvHas, RecvHold, RecvTook, SendDoes, SendHas, SendHold}
 use Rattle.wdt_world.specs.declared.hands.RecvHand.{RecvHand}
 use Rattle.wdt_world.specs.declared.hands.RecvHand.TheVariants as recv
@@ -39,3 +44,25 @@ pub record Sends (old : SendHold) (answer : Option SendIn) (v : LinesView) (q : 
 pub record Receives (old : RecvHold) (answer : Option RecvHand) (v : LinesView) (q : Pair) : Type 0 where
   pub told : q.recv ≡ recv_behind old answer
   pub shows : ShowsLines v q
+
+-- ---- what a lane holds then
+
+-- the sender's lane behind a try to make a connection
+abbrev pub dial_hand : Bool → SendHand
+dial_hand true = send.Has inputs.Linked
+dial_hand false = send.Has inputs.NoLink
+
+-- behind a read
+abbrev pub send_hand : Option SendIn → SendHand
+send_hand None = send.Does acts.Read
+send_hand (Some input) = send.Has input
+
+-- the receiver's lane behind a try to take a connection
+abbrev pub accept_hand : Option RecvIn → RecvHand
+accept_hand None = recv.Does recv_acts.Accept
+accept_hand (Some input) = recv.Has input
+
+-- behind a read, for which it held this act
+abbrev pub recv_hand : RecvAct → Option RecvHand → RecvHand
+recv_hand act None = recv.Does act
+recv_hand act (Some hand) = hand

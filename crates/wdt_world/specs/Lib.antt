@@ -6,3 +6,4 @@ pub mod Pairing
 pub mod Hands
 pub mod Heard
 pub mod Blocks
+pub mod Acting

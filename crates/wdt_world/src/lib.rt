@@ -5,6 +5,7 @@
 //! with its bytes, `specs/Shown` when a wire shows a connection, and `specs/Finding` what is found there.
 #![tactic(auto)]
 
+mod acting;
 mod hands;
 mod hearing;
 mod laws;
