@@ -8,3 +8,5 @@ pub mod Telling
 pub mod Pieces
 pub mod Blocking
 pub mod Performing
+pub mod Noting
+pub mod Plans

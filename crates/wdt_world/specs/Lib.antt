@@ -7,3 +7,4 @@ pub mod Hands
 pub mod Heard
 pub mod Blocks
 pub mod Acting
+pub mod Turning

@@ -12,5 +12,6 @@ mod laws;
 mod lines;
 mod sending;
 mod speaking;
+mod turning;
 
 pub use laws::wires_show_connections;
