@@ -10,3 +10,4 @@ pub mod Blocking
 pub mod Performing
 pub mod Noting
 pub mod Plans
+pub mod WorldSteps

@@ -8,3 +8,4 @@ pub mod Heard
 pub mod Blocks
 pub mod Acting
 pub mod Turning
+pub mod Stepping

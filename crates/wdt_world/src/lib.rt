@@ -12,6 +12,7 @@ mod laws;
 mod lines;
 mod sending;
 mod speaking;
+mod stepping;
 mod turning;
 
 pub use laws::wires_show_connections;
