@@ -17,7 +17,7 @@ returns-in-Does-clause-steps g c = λ w of within held same can shows.
     let may = subst (λ (hand : RecvHand). CanStepRecv hand (pair_at w c.args.lane.0)) c.in-Does.is can in
     through c.perform_recv.result
     (λ next a. subst (λ (r : PlainReceiver). StepsRecv (Rises (g.D.Depot.state c.args.dock.now.depot).faults (g.D.Depot.state c.args.dock.now.depot).faults) w c.args.lane.0 r next c.perform_recv.new.lines) of
-      (received (Rises (g.D.Depot.state c.args.dock.now.depot).faults (g.D.Depot.state c.args.dock.now.depot).faults) w c.args.lane.0 c.in-Does.act next c.perform_recv.new.lines within does may.1 a))
+    (received (Rises (g.D.Depot.state c.args.dock.now.depot).faults (g.D.Depot.state c.args.dock.now.depot).faults) w c.args.lane.0 c.in-Does.act next c.perform_recv.new.lines within does may.1 a))
     (c.perform_recv.ensures.done (pair_at w c.args.lane.0) does same may.0 shows)
 
 pub returns-in_ok-act-in-Has-clause-steps : goal.returns-in_ok-act-in-Has-clause-steps
@@ -26,7 +26,7 @@ returns-in_ok-act-in-Has-clause-steps g c = λ w of within held same can shows.
     let Fails = Rises (g.D.Depot.state c.args.dock.now.depot).faults (g.D.Depot.state c.turn_recv.new.dock.depot).faults in
     gave Fails w c.args.lane.0 c.in-Has.input c.in_ok-act-in-Has.act c.turn_recv.new.dock.plain c.turn_recv.new.lines within has
     (subst (λ (r : PlainReceiver). TurnsRecv Fails r c.args.lane (pair_at w c.args.lane.0) (Given c.in-Has.input) c.in_ok-act-in-Has.act c.turn_recv.new.dock.plain c.turn_recv.new.lines) (sym of)
-      (c.in_ok-act-in-Has.ensures.turned (pair_at w c.args.lane.0) (ap recv_stops has) shows))
+    (c.in_ok-act-in-Has.ensures.turned (pair_at w c.args.lane.0) (ap recv_stops has) shows))
 
 pub returns-in_ok-act-in-Took-clause-steps : goal.returns-in_ok-act-in-Took-clause-steps
 returns-in_ok-act-in-Took-clause-steps g c = λ w of within held same can shows.
@@ -34,4 +34,4 @@ returns-in_ok-act-in-Took-clause-steps g c = λ w of within held same can shows.
     let Fails = Rises (g.D.Depot.state c.args.dock.now.depot).faults (g.D.Depot.state c.turn_piece.new.dock.depot).faults in
     gave_bytes Fails w c.args.lane.0 (length c.as_slice.result.now) c.in_ok-act-in-Took.act c.turn_piece.new.dock.plain c.turn_piece.new.lines within has
     (subst (λ (r : PlainReceiver). TurnsRecv Fails r c.args.lane (pair_at w c.args.lane.0) (Bytes (some_bytes (length c.as_slice.result.now))) c.in_ok-act-in-Took.act c.turn_piece.new.dock.plain c.turn_piece.new.lines) (sym of)
-      (c.in_ok-act-in-Took.ensures.turned (pair_at w c.args.lane.0) (ap recv_stops has) shows))
+    (c.in_ok-act-in-Took.ensures.turned (pair_at w c.args.lane.0) (ap recv_stops has) shows))
