@@ -334,3 +334,7 @@ leaving_up v p shows =
       denies = shows.denies;
       refusals = shows.refusals;
     }
+
+-- the sender's connection was cut
+pub cut_shows : (v w : LinesView) (p : Pair) (down up : ℕ) → w ≡ on_top (cut_wire down up) v → ShowsLines v p → ShowsLines w (cuts_by p down up (top p))
+cut_shows v w p down up is shows = subst (λ (u : LinesView). ShowsLines u (cuts_by p down up (top p))) (sym is) (cutting v p down up shows)

@@ -1,6 +1,8 @@
 //! The connections of a lane.
-ghost use Rattle.std.specs.Prelude.{◌≡◌, ◌+◌, map, nat_lt, option_map, IfOk, OnErr, OnOk};
+ghost use Rattle.std.specs.Prelude.{suc, ◌≡◌, ◌+◌, map, nat_lt, option_map, IfOk, OnErr, OnOk};
+ghost use Rattle.wdt_pact.specs.Pairs.{Pair, cuts_by, top};
 ghost use Rattle.wdt_world.specs.Lines.{accepted, accepts, all_left_up, can_dial, dialed, has_waiting, left_down, left_up, made, no_lines, on_top, taken_next};
+ghost use Rattle.wdt_world.specs.Pairing.{ShowsLines};
 ghost use Rattle.wdt_wire.specs.Wires.{cut_wire, left_by};
 
 mod using;
@@ -137,6 +139,13 @@ impl Lines {
 
     /// Cuts the sender's connection: so many bytes can still be taken down and up.
     pub(crate) fn cut(&mut self, down: u64, up: u64)
+        ensures { (p : Pair) → ShowsLines self.old p → ShowsLines self.new (cuts_by p down up (top p)) }
+    {
+        self.cut_top(down, up);
+    }
+
+    // The same in bytes.
+    fn cut_top(&mut self, down: u64, up: u64)
         ensures { self.new ≡ on_top (cut_wire down up) self.old }
     {
         if let Some(wire) = &mut self.newest {
@@ -149,6 +158,7 @@ impl Lines {
     /// A further try to make a connection is to fail. NoMemory where they can't be counted.
     pub(crate) fn deny(&mut self) -> Result<(), NoMemory>
         ensures counted { OnOk result (self.new ≡ record self.old { denies = self.old.denies + 1 }) }
+        ensures shows { (p : Pair) → ShowsLines self.old p → OnOk result (ShowsLines self.new record p { denies = suc p.denies }) }
         ensures unchanged { OnErr result (self.new ≡ self.old) }
     {
         match self.denies.checked_add(1) {
@@ -161,6 +171,7 @@ impl Lines {
     /// A further try to take a connection is to fail. NoMemory where they can't be counted.
     pub(crate) fn refuse(&mut self) -> Result<(), NoMemory>
         ensures counted { OnOk result (self.new ≡ record self.old { refusals = self.old.refusals + 1 }) }
+        ensures shows { (p : Pair) → ShowsLines self.old p → OnOk result (ShowsLines self.new record p { refusals = suc p.refusals }) }
         ensures unchanged { OnErr result (self.new ≡ self.old) }
     {
         match self.refusals.checked_add(1) {
