@@ -1,9 +1,9 @@
 #!/bin/sh
 # Times a receiver's end of one lane over a depot in memory, without a network or a sender: blocks of 4 KiB,
-# and blocks of 64 KiB, and twice as many of each. Prints the medians in milliseconds, how much longer twice
-# the work takes, and the peak memory. The blocks are those of crates/wdt_dock_trials, which is proved and
-# built first.
-# usage: bench/dock.sh [SMALL BLOCKS] [LARGE BLOCKS]
+# of 64 KiB, and of 1 MiB, which come in 16 pieces; and twice as many of each. Prints the medians in
+# milliseconds, how much longer twice the work takes, and the peak memory of the once. The blocks are those of
+# crates/wdt_dock_trials, which is proved and built first.
+# usage: bench/dock.sh
 set -eu
 here=$(CDPATH= cd -- "$(dirname -- "$0")/.." && pwd)
 . "$here/bench/common.sh"
@@ -25,5 +25,6 @@ compare() {
             count, size, once / 1000, twice / 1000, twice / once, p }'
 }
 
-compare "${1:-100000}" 4096
-compare "${2:-8192}" 65536
+compare 100000 4096
+compare 4096 65536
+compare 256 1048576

@@ -12,19 +12,20 @@ use std::rt::{Clock, Files};
 use std::sync::Wait;
 use std::thread::Threads;
 use wdt_console::{Failed, explain, watched};
-use wdt_folder::{FolderDepot, FolderSource};
+use wdt_folder::{FolderDepot, FolderSource, Syncs};
 use wdt_pipes::pipe_ends;
-use wdt_progress::{Cleared, Watched};
+use wdt_progress::{Cleared, Watched, WatchedSource};
 use wdt_sending::Carried;
 use wdt_tool::Status;
 use wdt_tree::Untold;
 use wdt_units::ToWrite;
 use wdt_words::Named;
 
-/// Copies the words' folder into their other one over pipes, with a source for each lane, and says on
-/// standard error what went wrong. `Err` is want of memory.
+/// Copies the words' folder into their other one over pipes, with a source for each lane, where files are
+/// synced so, and says on standard error what went wrong. `Err` is want of memory.
 pub fn copy_folders<
     R: Threads + Wait + Files + AllocGlobal + Clock + Eprint + Clone + Drop + Send + Sync,
+    S: Syncs<R::File> + Drop + Send + Sync,
     W: io::Write + Drop,
 >(
     rt: &R,
@@ -32,6 +33,7 @@ pub fn copy_folders<
     words: &[String],
     named: Named,
     lanes: u8,
+    syncs: S,
     is_shown: bool,
     out: &mut Cleared<ToWrite<W>, R>,
 ) -> Result<Status, AllocError>
@@ -42,8 +44,9 @@ where
     requires { IfSome (transfer_of (map string_bytes words.now)) (λ transfer. IsServed transfer lanes lanes lanes) }
 {
     let Named { source, dest, .. } = named;
-    let sources = sources_of(rt, alloc, &source, lanes)?;
-    let depot = watched(rt, alloc, is_shown, &source, dest)?;
+    // What has come is counted at the destination.
+    let sources = sources_of(rt, alloc, &source, lanes, &None)?;
+    let depot = watched(rt, alloc, is_shown, &source, dest, syncs)?;
     let (no_dials, no_accepts) = (Vec::new(alloc), Vec::new(alloc));
     let ends = pipe_ends::<R, Untold>(rt.clone()?, alloc, lanes, no_dials, no_accepts);
     let Ok((dialers, acceptors)) = ends else {
@@ -58,10 +61,15 @@ where
 }
 
 // Says what went wrong in a copy.
-fn explain_copy<R: Files + AllocGlobal + Clock + Eprint + Clone + Drop, C, A>(
+fn explain_copy<
+    R: Files + AllocGlobal + Clock + Eprint + Clone + Drop,
+    S: Syncs<R::File> + Drop,
+    C,
+    A,
+>(
     rt: &R,
     alloc: Global,
-    carried: &Carried<FolderSource<R>, Watched<FolderDepot<R>, R>, C, A>,
+    carried: &Carried<WatchedSource<FolderSource<R>, R>, Watched<FolderDepot<R, S>, R>, C, A>,
     words: &[String],
     out: Option<&io::Error>,
 )

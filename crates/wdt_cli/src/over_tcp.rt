@@ -12,11 +12,11 @@ use std::os::unix::fs::FileExt;
 use std::rt::{Clock, Files};
 use std::sync::Wait;
 use std::thread::Threads;
-use wdt_console::{Failed, explain};
+use wdt_console::{Failed, explain, shared_progress, watched_arrival};
 use wdt_depot::MemDepot;
-use wdt_folder::{Fault, FolderDepot, FolderSource};
+use wdt_folder::{Fault, FolderDepot, FolderSource, Syncs};
 use wdt_net::{NetFault, TcpAccept, TcpDial, tcp_accepts, tcp_dials};
-use wdt_progress::Cleared;
+use wdt_progress::{Cleared, Watched, WatchedSource};
 use wdt_sending::Carried;
 use wdt_tool::Status;
 use wdt_tree::Untold;
@@ -24,7 +24,8 @@ use wdt_units::ToWrite;
 use wdt_words::Named;
 
 /// Sends the words' folder to the receiver at their host, with a source for each lane, whose ports begin at
-/// `port`, and says on standard error what went wrong. `Err` is want of memory.
+/// `port`, and says on standard error what went wrong, and where `is_shown` how far it is. `Err` is want of
+/// memory.
 pub fn send_folder<
     R: Threads
         + Wait
@@ -45,6 +46,7 @@ pub fn send_folder<
     named: Named,
     port: u16,
     lanes: u8,
+    is_shown: bool,
     out: &mut Cleared<ToWrite<W>, R>,
 ) -> Result<Status, AllocError>
 where
@@ -55,7 +57,8 @@ where
     requires ports { port + lanes ≤ 2 ^ 16 }
 {
     let Named { source, host, .. } = named;
-    let sources = sources_of(rt, alloc, &source, lanes)?;
+    let progress = shared_progress(rt, alloc, is_shown)?;
+    let sources = sources_of(rt, alloc, &source, lanes, &progress)?;
     let Ok(dialers) = tcp_dials::<R, Untold>(rt, alloc, &host, port, lanes) else {
         return Err(AllocError);
     };
@@ -66,6 +69,7 @@ where
     let carried = carry::<R, Untold, _, _, _, _, _>(
         rt, alloc, words, sources, unused, dialers, nobody, out,
     );
+    out.clear();
     let failed = Failed {
         source: failed_of(&carried.sources),
         disk: None,
@@ -89,7 +93,8 @@ fn dial_fault<R: Net<Listener = TcpListener, Stream = TcpStream> + Clock + Drop>
 }
 
 /// Listens at the words' host, on a port for each lane from `port` on, receives into their folder what is
-/// sent, and says on standard error what went wrong. `Err` is want of memory.
+/// sent, where files are synced so, and says on standard error what went wrong, and where `is_shown` how much
+/// has come. `Err` is want of memory.
 pub fn recv_folder<
     R: Threads
         + Wait
@@ -102,6 +107,7 @@ pub fn recv_folder<
         + Drop
         + Send
         + Sync,
+    S: Syncs<R::File> + Drop + Send + Sync,
     W: io::Write + Drop,
 >(
     rt: &R,
@@ -110,6 +116,8 @@ pub fn recv_folder<
     named: Named,
     port: u16,
     lanes: u8,
+    syncs: S,
+    is_shown: bool,
     out: &mut Cleared<ToWrite<W>, R>,
 ) -> Result<Status, AllocError>
 where
@@ -123,12 +131,13 @@ where
     let Ok(acceptors) = tcp_accepts::<R, Untold>(rt, alloc, &host, port, lanes) else {
         return Err(AllocError);
     };
-    let depot = FolderDepot::at(rt.clone()?, dest);
-    let sources: Vec<FolderSource<R>> = Vec::new(alloc);
+    let depot = watched_arrival(rt, is_shown, dest, syncs)?;
+    let sources: Vec<WatchedSource<FolderSource<R>, R>> = Vec::new(alloc);
     let nobody: Vec<TcpDial<R, Untold>> = Vec::new(alloc);
     let carried = carry::<R, Untold, _, _, _, _, _>(
         rt, alloc, words, sources, depot, nobody, acceptors, out,
     );
+    out.clear();
     let failed = Failed {
         source: failed_of(&carried.sources),
         disk: disk_fault(&carried.depot),
@@ -140,14 +149,14 @@ where
 }
 
 // The fault of the destination, where it came back.
-fn disk_fault<R: Files + AllocGlobal + Clone + Drop>(
-    depot: &Option<FolderDepot<R>>,
+fn disk_fault<R: Files + AllocGlobal + Clock + Eprint + Clone + Drop, S: Syncs<R::File> + Drop>(
+    depot: &Option<Watched<FolderDepot<R, S>, R>>,
 ) -> Option<&Fault>
 where
     R::File: FileExt,
 {
     match depot {
-        Some(depot) => depot.fault(),
+        Some(depot) => depot.depot().fault(),
         None => None,
     }
 }

@@ -10,11 +10,11 @@ use std::io;
 use std::net::{Net, TcpListener, TcpStream};
 use std::os::unix::fs::FileExt;
 use std::rt::{Clock, Files};
-use std::sync::Wait;
+use std::sync::{Arc, Wait};
 use std::thread::Threads;
 use wdt_console::{Hold, lie_apart, take_hold};
-use wdt_folder::{FolderSource, OneLine};
-use wdt_progress::Cleared;
+use wdt_folder::{FolderSource, InThreads, OneLine};
+use wdt_progress::{Cleared, Progress, WatchedSource};
 use wdt_tool::Status;
 use wdt_units::{Sink, ToWrite};
 use wdt_words::{Transfer, folders_of};
@@ -22,7 +22,7 @@ use wdt_words::{Transfer, folders_of};
 /// Runs the transfer that the words are: copies from one folder into another, over connections inside the
 /// process, or sends a folder's files to another machine, or receives such. Folders of a copy of which one
 /// is the other, or lies in it, are left alone, and so is a destination into which another transfer is going
-/// on. Where `is_shown`, a line on standard error tells how far a copy is. `Err` is want of memory.
+/// on. Where `is_shown`, a line on standard error tells how far it is. `Err` is want of memory.
 pub fn transfer<
     R: Threads
         + Wait
@@ -66,13 +66,17 @@ where
     };
     match command {
         Transfer::Copy { lanes, .. } => {
-            copy_folders(rt, alloc, words, named, lanes, is_shown, &mut out)
+            let syncs = InThreads::of(rt.clone()?);
+            copy_folders(rt, alloc, words, named, lanes, syncs, is_shown, &mut out)
         }
         Transfer::Send { port, lanes, .. } => {
-            send_folder(rt, alloc, words, named, port, lanes, &mut out)
+            send_folder(rt, alloc, words, named, port, lanes, is_shown, &mut out)
         }
         Transfer::Recv { port, lanes, .. } => {
-            recv_folder(rt, alloc, words, named, port, lanes, &mut out)
+            let syncs = InThreads::of(rt.clone()?);
+            recv_folder(
+                rt, alloc, words, named, port, lanes, syncs, is_shown, &mut out,
+            )
         }
     }
 }
@@ -98,29 +102,38 @@ fn hold<R: Files<File = File> + AllocGlobal + Eprint>(rt: &R, dest: &str) -> Opt
     }
 }
 
-/// A source of the files below a folder for each lane. `Err` is want of memory.
-pub fn sources_of<R: Files + AllocGlobal + Clone + Drop>(
+/// A source of the files below a folder for each lane, which counts what is read of it. `Err` is want of
+/// memory.
+pub fn sources_of<R: Files + AllocGlobal + Clock + Eprint + Clone + Drop>(
     rt: &R,
     alloc: Global,
     folder: &String,
     lanes: u8,
-) -> Result<Vec<FolderSource<R>>, AllocError>
+    progress: &Option<Arc<Progress<R>, Global>>,
+) -> Result<Vec<WatchedSource<FolderSource<R>, R>>, AllocError>
 where
     R::File: FileExt,
     ensures { IfOk result (λ sources. length sources.items ≡ lanes) }
 {
     let mut sources = Vec::new(alloc);
     for _ in 0..lanes {
-        sources.push(FolderSource::at(rt.clone()?, folder.clone()?))?;
+        let source = FolderSource::at(rt.clone()?, folder.clone()?);
+        sources.push(WatchedSource::of(source, progress.clone()?))?;
     }
     Ok(sources)
 }
 
 /// Of the sources of a transfer the one that failed, or else the first, which was listed. None where there
 /// is none.
-pub fn failed_of<R: Files + AllocGlobal + Clone + Drop>(
-    sources: &[FolderSource<R>],
-) -> Option<&FolderSource<R>> {
-    let failed = sources.iter().find(|source| source.fault().is_some());
-    failed.or(sources.first())
+pub fn failed_of<R: Files + AllocGlobal + Clock + Eprint + Clone + Drop>(
+    sources: &[WatchedSource<FolderSource<R>, R>],
+) -> Option<&FolderSource<R>>
+where
+    R::File: FileExt,
+{
+    let failed = sources
+        .iter()
+        .find(|watched| watched.source().fault().is_some());
+    let watched = failed.or(sources.first())?;
+    Some(watched.source())
 }

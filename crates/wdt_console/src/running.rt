@@ -6,7 +6,7 @@ use std::io;
 use std::os::unix::fs::FileExt;
 use std::rt::Files;
 use wdt_depot::MemDepot;
-use wdt_folder::{FolderDepot, FolderSource};
+use wdt_folder::{FolderDepot, FolderSource, OneByOne};
 use wdt_tool::{Status, tool};
 use wdt_units::{Sink, ToWrite};
 use wdt_words::{Named, folders_of};
@@ -103,7 +103,7 @@ where
     R::File: FileExt,
 {
     let mut source = FolderSource::at(rt.clone()?, source);
-    let depot = FolderDepot::at(rt.clone()?, dest);
+    let depot = FolderDepot::at(rt.clone()?, dest, OneByOne);
     let mut out = ToWrite::of(io::writer(rt));
     let tooled = tool(alloc, words, &mut source, depot, &mut out);
     let failed = Failed {

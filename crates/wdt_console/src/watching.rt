@@ -1,25 +1,27 @@
-//! A copy that somebody watches on a terminal.
-ghost use Rattle.std.specs.Prelude.{◌≡◌, IfOk};
+//! A transfer that somebody watches on a terminal.
+ghost use Rattle.std.specs.Prelude.{◌≡◌, IfOk, is_some};
 ghost use Rattle.wdt_folder.specs.FolderState.{folder_state};
 ghost use Rattle.wdt_folder.specs.Untold.{fresh};
 
 use std::alloc::{AllocError, Global};
 use std::os::unix::fs::FileExt;
 use std::rt::{Clock, Files};
-use wdt_folder::{FolderDepot, FolderSource};
-use wdt_progress::{Come, Progress, Watched};
+use std::sync::Arc;
+use wdt_folder::{FolderDepot, FolderSource, OneByOne, Syncs};
+use wdt_progress::{Come, Deed, Progress, Watched};
 use wdt_ranges::Have;
 use wdt_tool::{listed, stored_have};
 
-/// The depot of a copy from one folder into another. Where `is_shown`, a line on standard error tells
-/// how far it is. `Err` is want of memory.
-pub fn watched<R: Files + AllocGlobal + Clock + Eprint + Clone + Drop>(
+/// The depot of a copy from one folder into another, whose files are synced so. Where `is_shown`, a line
+/// on standard error tells how far it is. `Err` is want of memory.
+pub fn watched<R: Files + AllocGlobal + Clock + Eprint + Clone + Drop, S: Syncs<R::File> + Drop>(
     rt: &R,
     alloc: Global,
     is_shown: bool,
     source: &String,
     dest: String,
-) -> Result<Watched<FolderDepot<R>, R>, AllocError>
+    syncs: S,
+) -> Result<Watched<FolderDepot<R, S>, R>, AllocError>
 where
     R::File: FileExt,
     ensures { IfOk result (λ depot. folder_state depot ≡ fresh) }
@@ -29,7 +31,58 @@ where
     } else {
         None
     };
-    Ok(Watched::of(FolderDepot::at(rt.clone()?, dest), progress))
+    let depot = FolderDepot::at(rt.clone()?, dest, syncs);
+    Ok(Watched::of(depot, progress))
+}
+
+/// The depot of a receiver into a folder, whose files are synced so. Where `is_shown`, a line on standard
+/// error tells how much has come; the whole isn't known at this end. `Err` is want of memory.
+pub fn watched_arrival<
+    R: Files + AllocGlobal + Clock + Eprint + Clone + Drop,
+    S: Syncs<R::File> + Drop,
+>(
+    rt: &R,
+    is_shown: bool,
+    dest: String,
+    syncs: S,
+) -> Result<Watched<FolderDepot<R, S>, R>, AllocError>
+where
+    R::File: FileExt,
+    ensures { IfOk result (λ depot. folder_state depot ≡ fresh) }
+{
+    let progress = begun(rt, is_shown, Deed::Received)?;
+    let depot = FolderDepot::at(rt.clone()?, dest, syncs);
+    Ok(Watched::of(depot, progress))
+}
+
+/// What the sources of a send count into, so that a line on standard error tells how far it is. None where
+/// nothing is shown. `Err` is want of memory.
+pub fn shared_progress<R: AllocGlobal + Clock + Eprint + Clone + Drop>(
+    rt: &R,
+    alloc: Global,
+    is_shown: bool,
+) -> Result<Option<Arc<Progress<R>, Global>>, AllocError>
+    ensures { IfOk result (λ progress. is_some progress ≡ is_shown) }
+{
+    match begun(rt, is_shown, Deed::Sent)? {
+        Some(progress) => Ok(Some(Arc::new(alloc, progress)?)),
+        None => Ok(None),
+    }
+}
+
+// A transfer of which nothing has come yet. None where nothing is shown.
+fn begun<R: Clock + Eprint + Clone + Drop>(
+    rt: &R,
+    is_shown: bool,
+    deed: Deed,
+) -> Result<Option<Progress<R>>, AllocError>
+    ensures { IfOk result (λ progress. is_some progress ≡ is_shown) }
+{
+    if !is_shown {
+        return Ok(None);
+    }
+    let nothing = Come { files: 0, bytes: 0 };
+    Ok(Some(Progress::of(rt.clone()?, deed, nothing)))
 }
 
 // How far a copy is as it begins. None where the source or the destination's log can't be read: the copy
@@ -44,7 +97,7 @@ where
     R::File: FileExt,
 {
     let mut source = FolderSource::at(rt.clone()?, source.clone()?);
-    let mut depot = FolderDepot::at(rt.clone()?, dest.clone()?);
+    let mut depot = FolderDepot::at(rt.clone()?, dest.clone()?, OneByOne);
     let Ok(manifest) = listed(alloc, &mut source) else {
         return Ok(None);
     };
@@ -55,7 +108,9 @@ where
         files: u64::from(manifest.count()),
         bytes: manifest.total(),
     };
-    Ok(Some(Progress::of(rt.clone()?, all, come_in(&have))))
+    let progress = Progress::of(rt.clone()?, Deed::Copied, come_in(&have));
+    progress.expect(all, 0);
+    Ok(Some(progress))
 }
 
 // So many files and bytes have come by a destination's log.

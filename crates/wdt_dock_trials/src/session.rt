@@ -37,7 +37,7 @@ pub fn run(alloc: Global, dice: &mut Dice, counts: &mut Counts) -> Result<(), Ha
         if number > 0 {
             count(&mut counts.reopenings);
         }
-        disks = match open(alloc, dice, counts, disks)? {
+        disks = match open(alloc, dice, disks)? {
             Opened::Failed(disks) => left(alloc, counts, disks)?,
             Opened::Begun(mut ends) => {
                 drive(alloc, dice, counts, &mut ends)?;
@@ -65,13 +65,7 @@ fn fail_of(dice: &mut Dice) -> u32 {
 }
 
 // The next ends are opened, and in some of them the machine will go down.
-fn open(
-    alloc: Global,
-    dice: &mut Dice,
-    counts: &mut Counts,
-    mut disks: Disks,
-) -> Result<Opened, Halt> {
-    let _ = counts;
+fn open(alloc: Global, dice: &mut Dice, mut disks: Disks) -> Result<Opened, Halt> {
     if dice.is_one_in(3) {
         let pick = match dice.below(4) {
             3 => 255,

@@ -6,5 +6,5 @@ use Rattle.wdt_folder.specs.declared.depot.FolderDepot.{FolderDepot}
 use Rattle.wdt_folder.specs.Untold.{untold}
 
 -- its stop, its spots and its counts
-abbrev pub folder_state : {R File Dir : Type 0} → FolderDepot R File Dir → State
+abbrev pub folder_state : {R S File Dir : Type 0} → FolderDepot R S File Dir → State
 folder_state d = untold d.health (map entered_view d.spots.items)

@@ -7,6 +7,7 @@ ghost use Rattle.wdt_depot.specs.State.{Counts, IsCounted, IsKept, OnlyLooks, co
 ghost use Rattle.wdt_folder.specs.Untold.{is_barred, untold};
 
 use crate::folder::Folder;
+use crate::syncs::Syncs;
 use crate::trouble::{Fault, Trouble};
 use std::os::unix::fs::FileExt;
 use std::rt::Files;
@@ -19,41 +20,43 @@ use wdt_units::{Failed, Name, Spot};
 /// file's path is a fault, and so is a link on the way to it. But `make` unlinks a file or a link that
 /// stands at its path, so what the link leads to and the file's other names stay as they are.
 ///
-/// A sync of a file is noted alone. All noted files are synced, and with them the entries of folders,
-/// before `.wlog` or `.wlog.new` is made, written or synced next, or any file put in place; one that
-/// fails there fails that call, which does nothing else then. So a log never speaks of bytes, or of a
-/// file that was made, that a crash may take. Nothing else is to count on a sync before.
+/// A sync of a file is noted alone, unless the file was synced and nothing was written to it since. All
+/// noted files are synced together, as `Syncs` says, and with them the entries of folders, before `.wlog`
+/// or `.wlog.new` is made, written or synced next, or any file put in place; one that fails there fails
+/// that call, which does nothing else then. So a log never speaks of bytes, or of a file that was made,
+/// that a crash may take. Nothing else is to count on a sync before.
 ///
 /// Once a sync has failed, each later changing call fails until `reopen`, which drops what was noted.
 /// The first sync of a log that was there before puts a copy of it in its place, which is made at
 /// `.wlog.new`: what is read of it might not be on the disk.
 ///
-/// The files that were used last stay open, so nobody else may change the folder meanwhile.
+/// At most 256 files stay open, those that were used lately, so nobody else may change the folder
+/// meanwhile.
 #[derive(Drop)]
-pub struct FolderDepot<R: Files + AllocGlobal + Clone + Drop> {
+pub struct FolderDepot<R: Files + AllocGlobal + Clone + Drop, S: Drop> {
     pub(crate) health: Health,
     pub(crate) spots: Vec<Entered>,
-    pub(crate) folder: Folder<R>,
+    pub(crate) folder: Folder<R, S>,
     fault: Option<Fault>,
 }
 
-impl<R: Files + AllocGlobal + Clone + Drop> FolderDepot<R>
+impl<R: Files + AllocGlobal + Clone + Drop, S: Syncs<R::File> + Drop> FolderDepot<R, S>
 where
     R::File: FileExt,
 {
     ghost use Rattle.wdt_folder.specs.FolderState.{folder_state};
     ghost use Rattle.wdt_folder.specs.Untold.{fresh};
 
-    /// A depot of the files below a folder, which need not be there. Nothing is touched yet, and no
-    /// memory is taken.
-    pub fn at(rt: R, root: String) -> FolderDepot<R>
+    /// A depot of the files below a folder, which need not be there, and how they are to be synced. Nothing
+    /// is touched yet, and no memory is taken.
+    pub fn at(rt: R, root: String, syncs: S) -> FolderDepot<R, S>
         ensures { folder_state result ≡ fresh }
     {
         let alloc = rt.alloc();
         FolderDepot {
             health: Health::of(Vec::new(alloc)),
             spots: Vec::new(alloc),
-            folder: Folder::at(rt, root),
+            folder: Folder::at(rt, root, syncs),
             fault: None,
         }
     }
@@ -165,7 +168,7 @@ fn path_in(spots: &Vec<Entered>, spot: Spot) -> &Name
     }
 }
 
-impl<R: Files + AllocGlobal + Clone + Drop> Depot for FolderDepot<R>
+impl<R: Files + AllocGlobal + Clone + Drop, S: Syncs<R::File> + Drop> Depot for FolderDepot<R, S>
 where
     R::File: FileExt,
 {

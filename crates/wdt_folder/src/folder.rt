@@ -3,8 +3,10 @@ ghost use Rattle.std.specs.Prelude.{◌≤◌, ◌<◌, ◌+◌, ◌^◌, length
 
 use crate::files::{make, open, open_again, read_on, rename, renew, write_on};
 use crate::folders::Folders;
-use crate::handles::{Due, Handles};
+use crate::handle::Due;
+use crate::handles::Handles;
 use crate::paths::{joined, trimmed};
+use crate::syncs::Syncs;
 use crate::trouble::{Fault, Trouble};
 use std::alloc::AllocError;
 use std::fs::OpenFile;
@@ -32,8 +34,9 @@ enum Log {
 
 // A folder, the files below it that are open, and what is known of the folders below it.
 #[derive(Drop)]
-pub struct Folder<R: Files + AllocGlobal + Clone + Drop> {
+pub struct Folder<R: Files + AllocGlobal + Clone + Drop, S: Drop> {
     rt: R,
+    syncs: S,
     root: String,
     handles: Handles<R::File>,
     folders: Folders,
@@ -42,14 +45,15 @@ pub struct Folder<R: Files + AllocGlobal + Clone + Drop> {
     is_spoilt: bool,
 }
 
-impl<R: Files + AllocGlobal + Clone + Drop> Folder<R>
+impl<R: Files + AllocGlobal + Clone + Drop, S: Syncs<R::File> + Drop> Folder<R, S>
 where
     R::File: FileExt,
 {
-    pub fn at(rt: R, root: String) -> Folder<R> {
+    pub fn at(rt: R, root: String, syncs: S) -> Folder<R, S> {
         let alloc = rt.alloc();
         Folder {
             rt,
+            syncs,
             root,
             handles: Handles::none(alloc),
             folders: Folders::none(alloc),
@@ -128,7 +132,7 @@ where
     fn make_room(&mut self) -> Result<(), Trouble> {
         if let Some(at) = self.handles.surplus() {
             if self.handles.is_due(at) {
-                self.settle_files(Due::Written)?;
+                self.settle_all()?;
             }
             self.handles.close(at);
         }
@@ -213,7 +217,7 @@ where
             }
             handle.writes = true;
         }
-        if handle.due == Due::Nothing {
+        if handle.due < Due::Written {
             handle.due = Due::Written;
         }
         match write_on(&handle.file, offset, bytes) {
@@ -243,7 +247,7 @@ where
     // Syncs a log, and before it all that was noted and all entries of folders that aren't stable.
     fn sync_log(&mut self, at: usize, path: &Name) -> Result<(), Fault> {
         let alloc = self.rt.alloc();
-        self.handles.settle(alloc, Due::Noted)?;
+        self.handles.settle(alloc, &mut self.syncs)?;
         if path.text() == LOG {
             self.renew_log(at)?;
         }
@@ -303,14 +307,19 @@ where
 
     // Syncs the files that were noted, and all entries of folders that aren't stable.
     fn settle(&mut self) -> Result<(), Trouble> {
-        self.settle_files(Due::Noted)?;
+        self.sound()?;
+        let synced = self.handles.settle(self.rt.alloc(), &mut self.syncs);
+        self.judge(synced)?;
         self.settle_entries()
     }
 
-    // Syncs the files of which so much is due or more. Behind a sync that failed none is tried.
-    fn settle_files(&mut self, least: Due) -> Result<(), Trouble> {
+    // Syncs all files to which something was written. Behind a sync that failed none is tried.
+    fn settle_all(&mut self) -> Result<(), Trouble> {
         self.sound()?;
-        let synced = self.handles.settle(self.rt.alloc(), least);
+        let alloc = self.rt.alloc();
+        let synced = self
+            .handles
+            .settle_from(alloc, &mut self.syncs, Due::Written);
         self.judge(synced)
     }
 

@@ -14,13 +14,18 @@ mod depot;
 mod files;
 mod folder;
 mod folders;
+mod handle;
 mod handles;
 mod names;
 mod paths;
+mod settling;
 mod source;
 mod stops;
+mod syncs;
 mod trouble;
 
 pub use depot::FolderDepot;
+pub use handle::Handle;
 pub use source::FolderSource;
+pub use syncs::{InThreads, OneByOne, Syncs};
 pub use trouble::{Fault, OneLine};

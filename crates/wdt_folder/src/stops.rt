@@ -3,11 +3,12 @@ ghost use Rattle.wdt_depot.specs.Picks.{picked_disk};
 ghost use Rattle.wdt_depot.specs.PickLaws.{picks_image};
 
 use crate::depot::FolderDepot;
+use crate::syncs::Syncs;
 use std::os::unix::fs::FileExt;
 use std::rt::Files;
 use wdt_depot::Crash;
 
-impl<R: Files + AllocGlobal + Clone + Drop> Crash for FolderDepot<R>
+impl<R: Files + AllocGlobal + Clone + Drop, S: Syncs<R::File> + Drop> Crash for FolderDepot<R, S>
 where
     R::File: FileExt,
 {

@@ -60,7 +60,7 @@ fn entries_and_files_are_stable_before_the_log(rt: HostRuntime) -> Result<(), Fa
     Ok(())
 }
 
-const FILES_ARE_SYNCED_TOGETHER_BEFORE_A_LOG_IS_TOUCHED: [(Step, &str); 27] = [
+const FILES_ARE_SYNCED_TOGETHER_BEFORE_A_LOG_IS_TOUCHED: [(Step, &str); 35] = [
     (Make(".wlog"), "ok: new .wlog"),
     (Make("a"), "ok: new a"),
     (Write("a", 0, "hi"), "ok: write 0..2 a"),
@@ -80,22 +80,30 @@ const FILES_ARE_SYNCED_TOGETHER_BEFORE_A_LOG_IS_TOUCHED: [(Step, &str); 27] = [
     (Sync("c"), "ok"),
     (Sync(".wlog"), "ok: sync c, sync .wlog"),
     (Write(".wlog", 3, "1"), "ok: write 3..4 .wlog"),
+    // What was synced and not written since isn't synced again.
+    (Sync("a"), "ok"),
+    (Write(".wlog", 3, "1"), "ok: write 3..4 .wlog"),
+    (Write("a", 0, "x"), "ok: write 0..1 a"),
     (Sync("a"), "ok"),
     (Make(".wlog.new"), "ok: sync a, new .wlog.new"),
+    (Write("b", 0, "x"), "ok: write 0..1 b"),
     (Sync("b"), "ok"),
     (
         Place("c", "d"),
         "ok: sync b, fsync ., move c, to d, fsync .",
     ),
     // Not what stood at the path of a new file, but what is put in place under another name.
+    (Write("a", 0, "y"), "ok: write 0..1 a"),
     (Sync("a"), "ok"),
     (Make("a"), "ok: unlink a, new a"),
+    (Write("d", 0, "x"), "ok: write 0..1 c"),
     (Sync("d"), "ok"),
     (
         Write(".wlog", 3, "2"),
         "ok: sync c, fsync ., write 3..4 .wlog",
     ),
     // A new session knows of no sync that was asked for.
+    (Write("b", 0, "y"), "ok: write 0..1 b"),
     (Sync("b"), "ok"),
     (Reopen, "ok"),
     (
@@ -103,6 +111,7 @@ const FILES_ARE_SYNCED_TOGETHER_BEFORE_A_LOG_IS_TOUCHED: [(Step, &str); 27] = [
         "ok: fsync .., fsync ., write 4..5 .wlog",
     ),
     (Holds(".wlog", "log23"), "ok"),
+    (Holds("d", "xi"), "ok"),
 ];
 
 #[test]
@@ -114,23 +123,32 @@ fn files_are_synced_together_before_a_log_is_touched(rt: HostRuntime) -> Result<
     Ok(())
 }
 
-const A_FILE_IS_SYNCED_BEFORE_IT_IS_CLOSED: [(Step, &str); 15] = [
+const A_FILE_IS_SYNCED_BEFORE_IT_IS_CLOSED: [(Step, &str); 20] = [
     (Make("a"), "ok: new a"),
     (Write("a", 0, "x"), "ok: write 0..1 a"),
-    (Crowd(63), "ok"),
+    (Crowd(255), "ok"),
     // All that are due are synced together, and so the next to be closed needs no sync.
     (Write("5", 0, "x"), "ok: write 0..1 5"),
     (Sync("7"), "ok"),
     (Make("b"), "ok: sync a, sync 5, sync 7, new b"),
     (Make("c"), "ok: new c"),
+    // It isn't synced again behind its opening, unless it is written.
+    (Sync("a"), "ok"),
+    (Make(".wlog"), "ok: fsync .., fsync ., new .wlog"),
+    (Write("a", 0, "y"), "ok: write 0..1 a"),
+    (Sync("a"), "ok"),
+    (
+        Write(".wlog", 0, "x"),
+        "ok: sync a, fsync ., write 0..1 .wlog",
+    ),
     // Also where a call only looks.
     (Reopen, "ok"),
     (Sync("a"), "ok"),
-    (Crowd(63), "ok"),
+    (Crowd(255), "ok"),
     (Read("d", ""), "none: sync a"),
     (Write("a", 0, "y"), "ok: write 0..1 a"),
     (Failing("sync a", EIO), "ok"),
-    (Crowd(64), "failed"),
+    (Crowd(256), "failed"),
     (Make("d"), "barred"),
 ];
 
@@ -337,7 +355,7 @@ const A_SPOT_KEEPS_ITS_FILE: [(Step, &str); 15] = [
     (Holds("a", "new"), "ok"),
     // It is neither closed nor opened again.
     (Failing("open a", EIO), "ok"),
-    (Hold("a", 100), "ok"),
+    (Hold("a", 300), "ok"),
     (Place("a", "0"), "ok: fsync ., move a, to 0, fsync ."),
     (Read("0", "new"), "ok"),
     (Read("a", ""), "none"),

@@ -12,7 +12,7 @@ use std::rt::Files;
 use std::test::Fail;
 use std::time::{SystemTime, UNIX_EPOCH};
 use wdt_depot::{Crash, Depot, DepotFail};
-use wdt_folder::FolderDepot;
+use wdt_folder::{FolderDepot, OneByOne, Syncs};
 use wdt_units::{Failed, Name};
 
 /// What a test does.
@@ -86,7 +86,7 @@ pub fn play(rt: &HostRuntime, steps: &[(Step, &'static str)]) -> Result<String, 
         rt: rt.clone()?,
         notes: notes.clone()?,
     };
-    let mut depot = FolderDepot::at(watched, below(alloc, root.as_str(), "")?);
+    let mut depot = FolderDepot::at(watched, below(alloc, root.as_str(), "")?, OneByOne);
     let mut differences = String::new(alloc);
     for row in steps {
         let answer = take(rt, &mut depot, root.as_str(), &notes, &row.0)?;
@@ -115,7 +115,7 @@ fn compare(
 // Takes a step, and gives its answer. What many calls in a row call isn't kept.
 fn take(
     rt: &HostRuntime,
-    depot: &mut FolderDepot<Watched<HostRuntime>>,
+    depot: &mut FolderDepot<Watched<HostRuntime>, OneByOne>,
     root: &str,
     notes: &Notes,
     step: &Step,
@@ -153,9 +153,9 @@ impl Step {
     }
 }
 
-fn says<R: Files + AllocGlobal + Clone + Drop>(
+fn says<R: Files + AllocGlobal + Clone + Drop, S: Syncs<R::File> + Drop>(
     alloc: Global,
-    depot: &FolderDepot<R>,
+    depot: &FolderDepot<R, S>,
     root: &str,
     doing: &str,
     rest: &str,
@@ -222,11 +222,11 @@ fn call<C: Crash>(
     }
 }
 
-fn name(alloc: Global, path: &str) -> Result<Name, Fail> {
+pub fn name(alloc: Global, path: &str) -> Result<Name, Fail> {
     Ok(Name::read(alloc, path.as_bytes())?)
 }
 
-fn numbered(alloc: Global, count: u32) -> Result<Vec<Name>, Fail> {
+pub fn numbered(alloc: Global, count: u32) -> Result<Vec<Name>, Fail> {
     let mut names = Vec::new(alloc);
     for number in 0..count {
         names.push(name(alloc, format!(in alloc; "{number}")?.as_str())?)?;
@@ -242,7 +242,7 @@ fn told(done: Result<(), DepotFail>) -> Answer {
     }
 }
 
-fn write<D: Depot>(depot: &mut D, path: &Name, offset: u64, text: &str) -> Result<(), DepotFail>
+pub fn write<D: Depot>(depot: &mut D, path: &Name, offset: u64, text: &str) -> Result<(), DepotFail>
     requires { (D.state depot.old).spots ≡ [] }
     ensures { (D.state depot.new).spots ≡ [] }
 {
@@ -252,7 +252,7 @@ fn write<D: Depot>(depot: &mut D, path: &Name, offset: u64, text: &str) -> Resul
     written
 }
 
-fn sync<D: Depot>(depot: &mut D, path: &Name) -> Result<(), DepotFail>
+pub fn sync<D: Depot>(depot: &mut D, path: &Name) -> Result<(), DepotFail>
     requires { (D.state depot.old).spots ≡ [] }
     ensures { (D.state depot.new).spots ≡ [] }
 {

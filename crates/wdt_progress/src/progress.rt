@@ -1,86 +1,113 @@
 //! What has come so far, and when the line was drawn.
-use crate::line::Line;
+use crate::line::{Come, Deed, Line};
 use std::rt::Clock;
-use std::time::{Duration, Instant};
+use std::sync::OnceLock;
+use std::sync::atomic::AtomicU64;
+use std::sync::atomic::Ordering::SeqCst;
+use std::time::Instant;
 
 // The line is drawn anew behind so many milliseconds: five times a second.
 const PAUSE: u64 = 200;
 
-/// So many files, and so many bytes of files.
-#[derive(Clone, Copy, Debug)]
-pub struct Come {
-    pub files: u64,
-    pub bytes: u64,
-}
-
-/// Draws how far a copy is, on standard error.
+/// Draws how far a transfer is, on standard error. Many threads may count into one.
 #[derive(Drop)]
 pub struct Progress<R: Clock + Eprint + Drop> {
     rt: R,
-    all: Come,
-    // What stood at the destination as the copy began.
-    had: Come,
-    done: Come,
-    // None where the clock can't be read.
-    begun: Option<Instant>,
-    drawn: Option<Instant>,
+    deed: Deed,
+    // Empty where the whole isn't known.
+    all: OnceLock<Come>,
+    // How many bytes had come before this run.
+    had: u64,
+    files: AtomicU64,
+    bytes: AtomicU64,
+    // When something came for the first time.
+    begun: OnceLock<Instant>,
+    // From how many milliseconds on, since then, the line may be drawn.
+    next: AtomicU64,
 }
 
 impl<R: Clock + Eprint + Drop> Progress<R> {
-    /// A copy that begins: `all` is to stand at the destination in the end, and `had` stands there.
-    pub fn of(rt: R, all: Come, had: Come) -> Progress<R> {
-        let begun = Instant::now(&rt).ok();
+    /// A transfer that begins, of which `had` has come before.
+    pub fn of(rt: R, deed: Deed, had: Come) -> Progress<R> {
         Progress {
             rt,
-            all,
-            had,
-            done: had,
-            begun,
-            drawn: None,
+            deed,
+            all: OnceLock::new(),
+            had: had.bytes,
+            files: AtomicU64::new(had.files),
+            bytes: AtomicU64::new(had.bytes),
+            begun: OnceLock::new(),
+            next: AtomicU64::new(0),
         }
     }
 
-    /// A file was made.
-    pub fn count_file(&mut self) {
-        self.done.files = self.done.files.saturating_add(1);
-        self.draw();
+    /// So much is to come in the end, of which so many files have begun. What was known before stays.
+    pub fn expect(&self, all: Come, begun: u64) {
+        if self.all.try_set(all).is_ok() {
+            self.files.fetch_add(begun, SeqCst);
+        }
     }
 
-    /// So many bytes were written.
-    pub fn count_bytes(&mut self, bytes: u64) {
-        self.done.bytes = self.done.bytes.saturating_add(bytes);
+    /// So many files more have begun, and so many bytes more have come.
+    pub fn count(&self, more: Come) {
+        self.files.fetch_add(more.files, SeqCst);
+        self.bytes.fetch_add(more.bytes, SeqCst);
         self.draw();
     }
 
     // Draws the line anew, where the last one has stood long enough. What can't be written is left out.
-    fn draw(&mut self) {
+    fn draw(&self) {
         let Ok(now) = Instant::now(&self.rt) else {
             return;
         };
-        if let Some(drawn) = self.drawn {
-            if now.duration_since(drawn) < Duration::from_millis(PAUSE) {
-                return;
+        let spent = self.spent(now);
+        if self.is_due(spent) {
+            let line = self.line(spent);
+            let _ = eprint!(self.rt; "\r{line}\x1b[K");
+        }
+    }
+
+    // How many milliseconds have gone since something came for the first time.
+    fn spent(&self, now: Instant) -> u64 {
+        match self.begun.get() {
+            Some(begun) => u64::try_from(now.duration_since(*begun).as_millis()).unwrap_or(
+                u64::MAX,
+            ),
+            None => {
+                let _ = self.begun.try_set(now);
+                0
             }
         }
-        let line = self.line(now);
-        let _ = eprint!(self.rt; "\r{line}\x1b[K");
-        self.drawn = Some(now);
     }
 
-    // How far the copy is by now.
-    fn line(&self, now: Instant) -> Line {
+    // Whether the line is to be drawn, by the one thread that is told so.
+    fn is_due(&self, spent: u64) -> bool {
+        let next = self.next.load(SeqCst);
+        let later = spent.saturating_add(PAUSE);
+        spent >= next
+            && self
+                .next
+                .compare_exchange(next, later, SeqCst, SeqCst)
+                .is_ok()
+    }
+
+    /// How far the transfer is, so many milliseconds after something came for the first time.
+    pub fn line(&self, spent: u64) -> Line {
+        let done = Come {
+            files: self.files.load(SeqCst),
+            bytes: self.bytes.load(SeqCst),
+        };
         Line {
-            done: self.done,
-            all: self.all,
-            rate: self.rate(now),
+            deed: self.deed,
+            done,
+            all: self.all.get().copied(),
+            rate: rate_of(done.bytes.saturating_sub(self.had), spent),
         }
     }
+}
 
-    // How many bytes came in a second since the copy began.
-    fn rate(&self, now: Instant) -> Option<u64> {
-        let spent = now.duration_since(self.begun?).as_millis();
-        let come = self.done.bytes.saturating_sub(self.had.bytes);
-        let rate = (u128::from(come) * 1000).checked_div(spent)?;
-        u64::try_from(rate).ok()
-    }
+// How many bytes come in a second, where so many came in so many milliseconds.
+fn rate_of(come: u64, spent: u64) -> Option<u64> {
+    let rate = (u128::from(come) * 1000).checked_div(u128::from(spent))?;
+    u64::try_from(rate).ok()
 }

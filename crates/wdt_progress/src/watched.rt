@@ -1,6 +1,7 @@
 //! A depot whose files are counted as they come.
 ghost use Rattle.std.specs.Prelude.{◌≡◌};
 
+use crate::line::Come;
 use crate::progress::Progress;
 use std::marker::Model;
 use std::rt::Clock;
@@ -52,12 +53,12 @@ fn note_own(own: &mut Option<Spot>, path: &Name, spot: Spot) {
 
 // Counts bytes that have come, where that is shown.
 fn count_bytes<R: Clock + Eprint + Drop>(
-    progress: &mut Option<Progress<R>>,
+    progress: &Option<Progress<R>>,
     have_come: bool,
     bytes: u64,
 ) {
     if let (true, Some(progress)) = (have_come, progress) {
-        progress.count_bytes(bytes);
+        progress.count(Come { files: 0, bytes });
     }
 }
 
@@ -66,9 +67,9 @@ impl<D: Depot + Drop, R: Clock + Eprint + Drop> Depot for Watched<D, R> {
 
     fn make(&mut self, path: &Name) -> Result<(), DepotFail> {
         let made = self.depot.make(path);
-        if let (Ok(()), Some(progress)) = (&made, &mut self.progress) {
+        if let (Ok(()), Some(progress)) = (&made, &self.progress) {
             if !path.reserved() {
-                progress.count_file();
+                progress.count(Come { files: 1, bytes: 0 });
             }
         }
         made
@@ -109,7 +110,7 @@ impl<D: Depot + Drop, R: Clock + Eprint + Drop> Depot for Watched<D, R> {
         let written = self.depot.write_at(spot, offset, bytes);
         let is_file = self.own != Some(spot);
         count_bytes(
-            &mut self.progress,
+            &self.progress,
             written.is_ok() & is_file,
             bytes.len() as u64,
         );

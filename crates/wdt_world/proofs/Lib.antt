@@ -1,0 +1,13 @@
+pub mod Fronts
+pub mod Readings
+pub mod Showing
+pub mod Lining
+pub mod Putting
+pub mod Listening
+pub mod Telling
+pub mod Pieces
+pub mod Blocking
+pub mod Performing
+pub mod Noting
+pub mod Plans
+pub mod WorldSteps

@@ -1,0 +1,11 @@
+pub mod Said
+pub mod Shown
+pub mod Finding
+pub mod Lines
+pub mod Pairing
+pub mod Hands
+pub mod Heard
+pub mod Blocks
+pub mod Acting
+pub mod Turning
+pub mod Stepping
