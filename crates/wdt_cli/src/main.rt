@@ -14,6 +14,8 @@ mod copying;
 #[cfg(test)]
 mod fixtures;
 #[cfg(test)]
+mod folder_fixtures;
+#[cfg(test)]
 mod gated;
 mod over_pipes;
 mod over_tcp;

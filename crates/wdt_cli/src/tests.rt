@@ -1,9 +1,10 @@
 //! What no clause says: that copies succeed, and worked examples of their lines.
 use crate::fixtures::{Failing, Listed, NOTHING, copy_over_pipes};
+use crate::folder_fixtures::{new_folder, status_of};
 use crate::tcp_fixtures::{own_host, receive_at, send_to};
 use std::alloc::Global;
 use std::test::Fail;
-use std::thread;
+use std::{fs, thread};
 use wdt_receiver_fsm::RecvEvent;
 use wdt_units::{Lane, Name};
 
@@ -140,5 +141,29 @@ fn a_send_and_a_receiver_copy_over_tcp(rt: HostRuntime) -> Result<(), Fail> {
         let path = Name::read(alloc, path.as_bytes())?;
         assert!(rt; depot.shown(&path) == Some(*bytes));
     }
+    Ok(())
+}
+
+#[test]
+fn a_folder_is_sent_over_tcp(rt: HostRuntime) -> Result<(), Fail> {
+    let alloc = rt.alloc();
+    let folder = new_folder(&rt)?;
+    let root = folder.as_str();
+    let source = format!(in alloc; "{root}/source")?;
+    let dest = format!(in alloc; "{root}/dest")?;
+    let (from, to) = (source.as_str(), dest.as_str());
+    fs::create_dir(&rt, from)?;
+    fs::write(&rt, format!(in alloc; "{from}/a")?.as_str(), b"hi")?;
+    let host = own_host(&rt)?;
+    let host = host.as_str();
+    let (sent, received) = thread::join(
+        &rt,
+        || status_of(&rt, alloc, &["send", from, host, "7100", "--lanes", "2"]),
+        || status_of(&rt, alloc, &["recv", to, host, "7100", "--lanes", "2"]),
+    );
+    assert_eq!(rt; (sent, received), (Some(0), Some(0)));
+    let copied = fs::read(&rt, format!(in alloc; "{to}/a")?.as_str())?;
+    assert_eq!(rt; copied.as_slice(), b"hi".as_slice());
+    fs::remove_dir_all(&rt, root)?;
     Ok(())
 }
