@@ -1,5 +1,5 @@
 //! The top call of the commands that copy over connections.
-ghost use Rattle.std.specs.Prelude.{◌≡◌, ◌≢◌, ◌↔◌, ◌⊎◌, ℕ, [], None, Some, All, IfSome, length, map, string_bytes};
+ghost use Rattle.std.specs.Prelude.{◌≡◌, ◌≢◌, ◌⊎◌, ℕ, [], None, Some, All, IfSome, length, map, string_bytes};
 ghost use Rattle.wdt_units.specs.Counts.{Rises, Stands, capped};
 ghost use Rattle.wdt_depot.specs.Moments.{IfTold};
 ghost use Rattle.wdt_good.specs.Logged.{GoodSince};
@@ -73,7 +73,8 @@ where
     ensures unwritten { result.status ≡ Status.OutFault → IfSome (stored_run (transfer_of (map string_bytes words.now)) N.told) (λ run. LandsIn D.state run.tree result.depot) }
 
     // Each other status has its cause.
-    ensures usage { result.status ≡ Status.Usage ↔ (transfer_of (map string_bytes words.now) ≡ None) }
+    ensures usage { result.status ≡ Status.Usage → transfer_of (map string_bytes words.now) ≡ None }
+    ensures no_form { transfer_of (map string_bytes words.now) ≡ None → (result.status ≡ Status.Usage) ⊎ (result.status ≡ Status.NoMemory) }
     ensures source_fault { result.status ≡ Status.SourceFault → SomeRose S.faults sources.items result.sources.items }
     ensures disk_fault { result.status ≡ Status.DiskFault → DepotRose D.state (D.state depot) result.depot }
     ensures link_fault { result.status ≡ Status.LinkFault → SomeRose (λ c. capped (C.faults c)) dialers.items result.dialers.items ⊎ SomeRose (λ a. capped (A.faults a)) acceptors.items result.acceptors.items }
@@ -125,9 +126,10 @@ where
         dialers,
         acceptors,
     };
-    match transfer_of(words) {
-        Some(transfer) => run::<R, N, S, D, C, A, O>(rt, alloc, transfer, parts, out),
-        None => unrun(alloc, end_with(Status::Usage, out), parts),
+    match transfer_of(alloc, words) {
+        Ok(Some(transfer)) => run::<R, N, S, D, C, A, O>(rt, alloc, transfer, parts, out),
+        Ok(None) => unrun(alloc, end_with(Status::Usage, out), parts),
+        Err(_) => unrun(alloc, Status::NoMemory, parts),
     }
 }
 

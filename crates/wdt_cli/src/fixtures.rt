@@ -94,7 +94,7 @@ pub fn copy_over_pipes<R: Threads + Wait + Clone + Drop + Send + Sync>(
     fails: &Failing<'_>,
 ) -> Result<Copied, Fail> {
     let texts = texts_of(alloc, words)?;
-    match transfer_of(&texts) {
+    match transfer_of(alloc, &texts)? {
         Some(Transfer::Copy { lanes, .. }) => {
             run_over_pipes(rt, alloc, &texts, lanes, files, fails)
         }

@@ -38,9 +38,10 @@ use wdt_words::transfer_of;
 fn main(rt: HostRuntime) -> ExitCode {
     let alloc = rt.alloc();
     let ended = match words_of(&rt, alloc) {
-        Ok(words) => match transfer_of(&words) {
-            Some(command) => transfer(&rt, alloc, &words, command, rt.stderr().is_terminal()),
-            None => run(&rt, alloc, &words),
+        Ok(words) => match transfer_of(alloc, &words) {
+            Ok(Some(command)) => transfer(&rt, alloc, &words, command, rt.stderr().is_terminal()),
+            Ok(None) => run(&rt, alloc, &words),
+            Err(_) => Err(AllocError),
         },
         Err(failure) => Err(failure),
     };

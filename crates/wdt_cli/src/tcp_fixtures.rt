@@ -46,7 +46,7 @@ pub fn send_to<
         + Sync,
 >(rt: &R, alloc: Global, words: &[&str], host: &str, files: &[Listed<'_>]) -> Option<Ended> {
     let texts = texts_of(alloc, words).ok()?;
-    match transfer_of(&texts) {
+    match transfer_of(alloc, &texts).ok()? {
         Some(Transfer::Send { port, lanes, .. }) => send(
             rt, alloc, &texts, host, port, lanes, files,
         ).ok(),
@@ -106,7 +106,7 @@ pub fn receive_at<
         + Sync,
 >(rt: &R, alloc: Global, words: &[&str], host: &str) -> Option<Ended> {
     let texts = texts_of(alloc, words).ok()?;
-    match transfer_of(&texts) {
+    match transfer_of(alloc, &texts).ok()? {
         Some(Transfer::Recv { port, lanes, .. }) => receive(
             rt, alloc, &texts, host, port, lanes,
         ).ok(),

@@ -32,7 +32,7 @@ pub fn explain<R: Files + AllocGlobal + Clone + Drop, L: fmt::Display + Drop>(
 ) -> io::Result<()> {
     match status {
         Status::Done => Ok(()),
-        Status::Usage => explain_words(rt, words),
+        Status::Usage => explain_words(rt, alloc, words),
         Status::SourceFault => match failed.source {
             Some(source) => explain_fault(rt, source.fault()),
             None => Ok(()),

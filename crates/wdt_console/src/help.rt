@@ -71,7 +71,8 @@ const TAIL: &str = "  \
   wdt --help                    prints this
   wdt --version                 prints the version
 
-SRC, DST and HOST are words that don't begin with `-`. Options stand behind them.
+SRC, DST and HOST are words that don't begin with `-`. Options stand behind them;
+those of copy, send and recv may stand before them, too, and as --lanes=N.
 
 exit statuses:
   0   done

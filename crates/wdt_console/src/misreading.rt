@@ -1,14 +1,20 @@
 //! Which word is wrong, in a line for a person, and the usage of its command.
 use crate::help::usage_of;
+use std::alloc::Global;
 use std::io;
 use wdt_folder::OneLine;
-use wdt_words::{Expected, MAX_PORT, Misread, read_transfer, read_words};
+use wdt_words::{Expected, Misread, read_words, told_of};
 
 /// Says on standard error which word is wrong and what was expected there, and how its command is used.
 /// `Err` says why standard error couldn't be written.
-pub fn explain_words(rt: &impl Eprint, words: &[String]) -> io::Result<()> {
-    if let Some(misread) = misread_in(words) {
-        explain_word(rt, words, misread)?;
+pub fn explain_words(rt: &impl Eprint, alloc: Global, words: &[String]) -> io::Result<()> {
+    match words {
+        [command, ..] if is_transfer(command.as_str()) => explain_transfer(rt, alloc, words)?,
+        _ => {
+            if let Err(misread) = read_words(words) {
+                explain_word(rt, words, misread)?;
+            }
+        }
     }
     if let [command, ..] = words {
         eprint!(rt; "{}", usage_of(command.as_str()))?;
@@ -16,17 +22,17 @@ pub fn explain_words(rt: &impl Eprint, words: &[String]) -> io::Result<()> {
     eprintln!(rt; "wdt --help shows all commands")
 }
 
-// What is wrong with words that are no form of their command.
-fn misread_in(words: &[String]) -> Option<Misread> {
-    match words {
-        [command, ..] if is_transfer(command.as_str()) => read_transfer(words).err(),
-        _ => read_words(words).err(),
-    }
-}
-
 // Whether a command of this name copies over connections.
 fn is_transfer(command: &str) -> bool {
     command == "copy" || command == "send" || command == "recv"
+}
+
+// Where there is no memory for the reason, the usage tells enough.
+fn explain_transfer(rt: &impl Eprint, alloc: Global, words: &[String]) -> io::Result<()> {
+    match told_of(alloc, words) {
+        Ok(Some(reason)) => eprintln!(rt; "wdt: {}", OneLine(reason.as_str())),
+        _ => Ok(()),
+    }
 }
 
 fn explain_word(rt: &impl Eprint, words: &[String], misread: Misread) -> io::Result<()> {
@@ -42,10 +48,6 @@ fn explain_word(rt: &impl Eprint, words: &[String], misread: Misread) -> io::Res
         Expected::Source | Expected::Dest => eprintln!(rt;
             "wdt: a folder is expected, which isn't empty and doesn't begin with `-`: {word}"
         ),
-        Expected::Host => eprintln!(rt;
-            "wdt: a host is expected, which isn't empty and doesn't begin with `-`: {word}"
-        ),
-        Expected::Port => eprintln!(rt; "wdt: PORT is 1 to {MAX_PORT}: {word}"),
         Expected::Setting => eprintln!(rt; "wdt: unknown option {word}"),
         Expected::End => eprintln!(rt; "wdt: a word too many: {word}"),
         Expected::Once => eprintln!(rt; "wdt: {word} is given twice"),
@@ -61,10 +63,6 @@ fn explain_missing(rt: &impl Eprint, last: OneLine<'_>, expected: Expected) -> i
         Expected::Command => eprintln!(rt; "wdt: a command is missing"),
         Expected::Source => eprintln!(rt; "wdt: SRC is missing, the folder to copy from"),
         Expected::Dest => eprintln!(rt; "wdt: DST is missing, the folder to copy to"),
-        Expected::Host => eprintln!(rt;
-            "wdt: HOST is missing, the name or the address of a machine"
-        ),
-        Expected::Port => eprintln!(rt; "wdt: PORT is missing, 1 to {MAX_PORT}"),
         Expected::Number { least, greatest } => eprintln!(rt;
             "wdt: {last} takes {least} to {greatest}"
         ),

@@ -1,1 +1,3 @@
+pub mod Readers
 pub mod Taken
+pub mod Whole

@@ -2,5 +2,6 @@ pub mod Named
 pub mod Names
 pub mod Numbers
 pub mod Options
-pub mod Remote
+pub mod Readers
+pub mod Transfers
 pub mod Words

@@ -1,10 +1,14 @@
 -- What a form of a command names, as plain data.
-use Rattle.std.specs.Prelude.{ℕ, List, [], slice_get, Option, Some, None, option_map}
-use Rattle.wdt_words.specs.Words.{command_of, transfer_of}
+use Rattle.std.specs.Prelude.{ℕ, List, [], slice_get, Option, Some, None, option_and_then, option_map, codes}
+use Rattle.wdt_words.specs.Readers.{found_in, reader_in}
+use Rattle.wdt_words.specs.Transfers.{transfer_in}
+use Rattle.wdt_words.specs.Words.{command_of}
 use Rattle.wdt_words.specs.declared.command.Command.{Command}
 use Rattle.wdt_words.specs.declared.command.Command.TheVariants.{Rehearse, Plan, Log}
 use Rattle.wdt_words.specs.declared.command.Transfer.{Transfer}
 use Rattle.wdt_words.specs.declared.command.Transfer.TheVariants.{Copy, Send, Recv}
+use Rattle.wdt_words.specs.declared.reader.Reader.{Reader}
+use Rattle.clap.specs.Words.{first_of, Row}
 
 -- the folders and the host by their bytes, the host's port, and how many lanes
 pub record PlainNamed : Type 0 where
@@ -39,18 +43,47 @@ dest_of words Log = word_at words 1
 abbrev pub named_by : List (List ℕ) → Command → PlainNamed
 named_by words command = record { source = source_of words command; dest = dest_of words command; host = []; port = 0; lanes = 1 }
 
--- what the words name, as a form of a transfer
-abbrev pub named_in : List (List ℕ) → Transfer → PlainNamed
-named_in words (Copy lanes block batch) = record { source = word_at words 1; dest = word_at words 2; host = []; port = 0; lanes = lanes }
-named_in words (Send port lanes block session) = record { source = word_at words 1; dest = []; host = word_at words 2; port = port; lanes = lanes }
-named_in words (Recv port lanes batch) = record { source = []; dest = word_at words 1; host = word_at words 2; port = port; lanes = lanes }
+-- the port of a transfer's first lane, where it has one
+abbrev pub port_of : Transfer → ℕ
+port_of (Copy lanes block batch) = 0
+port_of (Send port lanes block session) = port
+port_of (Recv port lanes batch) = port
+
+-- how many lanes a transfer has
+abbrev pub lanes_of : Transfer → ℕ
+lanes_of (Copy lanes block batch) = lanes
+lanes_of (Send port lanes block session) = lanes
+lanes_of (Recv port lanes batch) = lanes
+
+-- what is found for an argument, or an empty text
+abbrev pub found_text : List ℕ → List Row → List ℕ
+found_text id rows = text_or (first_of id rows)
+
+-- what is named where this is found, as a transfer
+abbrev pub named_in : List Row → Transfer → PlainNamed
+named_in rows transfer = record {
+  source = found_text (codes "SRC") rows;
+  dest = found_text (codes "DST") rows;
+  host = found_text (codes "HOST") rows;
+  port = port_of transfer;
+  lanes = lanes_of transfer;
+}
+
+-- what is named where this is found
+abbrev pub named_found : Reader → List Row → Option PlainNamed
+named_found reader rows = option_map (named_in rows) (transfer_in reader rows)
+
+-- what the words of a transfer name
+abbrev pub named_by_reader : List (List ℕ) → Option Reader → Option PlainNamed
+named_by_reader words None = None
+named_by_reader words (Some reader) = option_and_then (named_found reader) (found_in reader words)
 
 -- the first, or else the other
-abbrev pub first_of : Option PlainNamed → Option PlainNamed → Option PlainNamed
-first_of None other = other
-first_of (Some named) other = Some named
+abbrev pub or_else : Option PlainNamed → Option PlainNamed → Option PlainNamed
+or_else None other = other
+or_else (Some named) other = Some named
 
 -- what the words name, where they are a form
 abbrev pub named_of : List (List ℕ) → Option PlainNamed
 named_of words =
-    first_of (option_map (named_by words) (command_of words)) (option_map (named_in words) (transfer_of words))
+    or_else (option_map (named_by words) (command_of words)) (named_by_reader words (reader_in words))

@@ -7,7 +7,7 @@ use Rattle.wdt_words.specs.declared.options.Form.{Form}
 use Rattle.wdt_words.specs.declared.options.Form.TheVariants as forms
 use Rattle.wdt_words.specs.declared.options.Options.{Options}
 use Rattle.wdt_words.specs.declared.options.Setting.{Setting}
-use Rattle.wdt_words.specs.declared.options.Setting.TheVariants.{Lanes, Block, Batch, Session}
+use Rattle.wdt_words.specs.declared.options.Setting.TheVariants.{Lanes, Block, Batch}
 use Rattle.wdt_words.specs.declared.options.TheConstants.{DEFAULT_LANES, DEFAULT_SESSION, MAX_SESSION}
 
 -- ---- names
@@ -18,20 +18,12 @@ named_setting name =
     if bytes_eq name (codes "--lanes") then Some Lanes
     else if bytes_eq name (codes "--block") then Some Block
     else if bytes_eq name (codes "--batch") then Some Batch
-    else if bytes_eq name (codes "--session") then Some Session
     else None
 
 -- whether a form takes an option
 abbrev pub takes : Form → Setting → Bool
 takes forms.Plan Block = true
 takes forms.Plan other = false
-takes forms.Copy Session = false
-takes forms.Copy other = true
-takes forms.Send Batch = false
-takes forms.Send other = true
-takes forms.Recv Lanes = true
-takes forms.Recv Batch = true
-takes forms.Recv other = false
 
 -- an option, if the form takes it
 abbrev pub taken_by : Form → Setting → Option Setting
@@ -48,7 +40,6 @@ abbrev pub greatest_of : Setting → ℕ
 greatest_of Lanes = MAX_LANES
 greatest_of Block = MAX_BLOCK
 greatest_of Batch = MAX_BATCH
-greatest_of Session = MAX_SESSION
 
 -- a value that an option may have
 abbrev pub IsValueOf : Setting → ℕ → Type 0
@@ -59,14 +50,12 @@ abbrev pub value_of : Options → Setting → Option ℕ
 value_of options Lanes = options.lanes
 value_of options Block = options.block
 value_of options Batch = options.batch
-value_of options Session = options.session
 
 -- the options with a value for one of them
 abbrev pub with_value : Options → Setting → ℕ → Options
 with_value options Lanes value = record options { lanes = Some value }
 with_value options Block value = record options { block = Some value }
 with_value options Batch value = record options { batch = Some value }
-with_value options Session value = record options { session = Some value }
 
 -- each option that is given has a value that it may have
 pub record AreWithin (options : Options) : Type 0 where

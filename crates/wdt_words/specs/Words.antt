@@ -4,8 +4,9 @@ use Rattle.std.specs.Str.{bytes_eq}
 use Rattle.wdt_units.specs.declared.limits.TheConstants.{MAX_BATCH, MAX_BLOCK, MAX_LANES}
 use Rattle.wdt_words.specs.Names.{is_name}
 use Rattle.wdt_words.specs.Numbers.{IsWithin}
-use Rattle.wdt_words.specs.Options.{batch_of, block_of, lanes_of, options_of}
-use Rattle.wdt_words.specs.Remote.{recv_form, send_form, IsReachable}
+use Rattle.wdt_words.specs.Options.{block_of, options_of}
+use Rattle.wdt_words.specs.Readers.{reader_in}
+use Rattle.wdt_words.specs.Transfers.{transfer_by}
 use Rattle.wdt_words.specs.declared.command.Command.{Command}
 use Rattle.wdt_words.specs.declared.command.Command.TheVariants.{Rehearse, Plan, Log}
 use Rattle.wdt_words.specs.declared.command.Transfer.{Transfer}
@@ -14,6 +15,7 @@ use Rattle.wdt_words.specs.declared.options.Form.{Form}
 use Rattle.wdt_words.specs.declared.options.Form.TheVariants as forms
 use Rattle.wdt_words.specs.declared.options.Options.{Options}
 use Rattle.wdt_words.specs.declared.options.TheConstants.{MAX_SESSION}
+use Rattle.wdt_words.specs.declared.reader.TheConstants.{MAX_PORT}
 
 -- ---- the words behind a command
 
@@ -63,32 +65,20 @@ HasBlock other = Unit {0}
 
 -- ---- transfers
 
--- a copy with these options
-abbrev pub copy_with : Options → Transfer
-copy_with options = Copy (lanes_of options) (block_of options) (batch_of options)
-
--- SRC DST, and options
-abbrev pub copy_form : List (List ℕ) → Option Transfer
-copy_form words = option_map copy_with (folders_form forms.Copy words)
-
--- the transfer of this name that the words are, if they are a form of it
-abbrev pub transfer_form_of : List ℕ → List (List ℕ) → Option Transfer
-transfer_form_of command words =
-    if bytes_eq command (codes "copy") then copy_form words
-    else if bytes_eq command (codes "send") then send_form words
-    else if bytes_eq command (codes "recv") then recv_form words
-    else None
-
 -- the transfer that the words are, if they are a form of one
 unfoldable pub transfer_of : List (List ℕ) → Option Transfer
-transfer_of [] = None
-transfer_of (command ∷ words) = transfer_form_of command words
+transfer_of words = transfer_by words (reader_in words)
 
 -- the options of a copy are within their limits
 pub record IsLimited (lanes block batch : ℕ) : Type 0 where
   pub some_lanes : IsWithin 1 MAX_LANES lanes
   pub some_bytes : IsWithin 1 MAX_BLOCK block
   pub some_batch : IsWithin 1 MAX_BATCH batch
+
+-- port and lanes lie within their limits
+pub record IsReachable (port lanes : ℕ) : Type 0 where
+  pub first_port : IsWithin 1 MAX_PORT port
+  pub some_lanes : IsWithin 1 MAX_LANES lanes
 
 -- the same of a transfer's own
 abbrev pub HasLimits : Transfer → Type 0

@@ -1,14 +1,13 @@
-//! The forms of words.
+//! The forms of words that are read by hand.
 ghost use Rattle.std.specs.Result.{result_ok};
 ghost use Rattle.std.specs.Prelude.{◌≡◌, map, string_bytes, IfOk, IfSome};
 ghost use Rattle.wdt_words.specs.Options.{AreWithin};
-ghost use Rattle.wdt_words.specs.Words.{command_of, copy_form, folders_form, log_form, plan_form, rehearse_form, transfer_of, HasBlock, HasLimits};
+ghost use Rattle.wdt_words.specs.Words.{command_of, folders_form, log_form, plan_form, rehearse_form, HasBlock};
 
-use crate::command::{Command, Transfer};
+use crate::command::Command;
 use crate::misread::{Expected, Misread, wrong};
 use crate::names::is_name;
 use crate::options::{Form, Options, read_options};
-use crate::remote::{recv_form, send_form};
 
 /// The command that the words are, or None where they are no form of one.
 pub fn command_of(words: &[String]) -> Option<Command>
@@ -87,51 +86,5 @@ fn log_form(words: &[String]) -> Result<Command, Misread>
         [dest] if is_name(dest.as_str()) => Ok(Command::Log),
         [dest, more @ ..] if is_name(dest.as_str()) => wrong(more.len(), Expected::End),
         _ => wrong(words.len(), Expected::Dest),
-    }
-}
-
-/// The transfer that the words are, or None where they are no form of one.
-pub fn transfer_of(words: &[String]) -> Option<Transfer>
-    ensures value { result ≡ transfer_of (map string_bytes words.now) }
-    ensures limits { IfSome result HasLimits }
-{
-    match read_transfer(words) {
-        Ok(transfer) => Some(transfer),
-        Err(_) => None,
-    }
-}
-
-/// The transfer that the words are, or the first that is wrong where they are no form of one.
-#[tactic(auto, unfolding(crate::specs::Words::transfer_of))]
-pub fn read_transfer(words: &[String]) -> Result<Transfer, Misread>
-    ensures value { result_ok result ≡ transfer_of (map string_bytes words.now) }
-    ensures limits { IfOk result HasLimits }
-{
-    let [command, words @ ..] = words else {
-        return wrong(0, Expected::Command);
-    };
-    if command.as_str() == "copy" {
-        return copy_form(words);
-    }
-    if command.as_str() == "send" {
-        return send_form(words);
-    }
-    if command.as_str() == "recv" {
-        return recv_form(words);
-    }
-    wrong(words.len().saturating_add(1), Expected::Command)
-}
-
-fn copy_form(words: &[String]) -> Result<Transfer, Misread>
-    ensures value { result_ok result ≡ copy_form (map string_bytes words.now) }
-    ensures limits { IfOk result HasLimits }
-{
-    match folders_form(Form::Copy, words) {
-        Ok(options) => Ok(Transfer::Copy {
-            lanes: options.lanes(),
-            block: options.block(),
-            batch: options.batch(),
-        }),
-        Err(misread) => Err(misread),
     }
 }

@@ -18,10 +18,6 @@ pub enum Expected {
     Source,
     /// The folder to copy to, by the same rule.
     Dest,
-    /// The host to send to, or the address to listen on: not empty, and not begun with `-`.
-    Host,
-    /// The port of the first lane: a number as of an option, from 1 to 65,520.
-    Port,
     /// An option of the command, or the end of the words.
     Setting,
     /// The end of the words, since the command takes no option.

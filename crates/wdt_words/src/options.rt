@@ -17,17 +17,11 @@ pub const MAX_SESSION: u64 = 9_223_372_036_854_775_807;
 /// The number of a session where nothing else is said.
 pub const DEFAULT_SESSION: u64 = 1;
 
-/// A form of words that takes options.
+/// A form of words that is read by hand and takes options.
 #[derive(Clone, Copy, Debug, PartialEq, Eq)]
 pub enum Form {
     /// It takes `--block`.
     Plan,
-    /// It takes `--lanes`, `--block` and `--batch`.
-    Copy,
-    /// It takes `--lanes`, `--block` and `--session`.
-    Send,
-    /// It takes `--lanes` and `--batch`.
-    Recv,
 }
 
 impl Form {
@@ -37,20 +31,16 @@ impl Form {
     {
         match self {
             Form::Plan => matches!(setting, Setting::Block),
-            Form::Copy => !matches!(setting, Setting::Session),
-            Form::Send => !matches!(setting, Setting::Batch),
-            Form::Recv => matches!(setting, Setting::Lanes | Setting::Batch),
         }
     }
 }
 
-/// An option.
+/// An option that is read by hand.
 #[derive(Clone, Copy, Debug, PartialEq, Eq)]
 pub enum Setting {
     Lanes,
     Block,
     Batch,
-    Session,
 }
 
 impl Setting {
@@ -62,7 +52,6 @@ impl Setting {
             Setting::Lanes => u64::from(MAX_LANES),
             Setting::Block => u64::from(MAX_BLOCK),
             Setting::Batch => u64::from(MAX_BATCH),
-            Setting::Session => MAX_SESSION,
         }
     }
 }
@@ -144,7 +133,6 @@ impl Options {
             Setting::Lanes => self.lanes,
             Setting::Block => self.block,
             Setting::Batch => self.batch,
-            Setting::Session => self.session,
         }
     }
 
@@ -167,10 +155,6 @@ impl Options {
             },
             Setting::Batch => Options {
                 batch: given,
-                ..self
-            },
-            Setting::Session => Options {
-                session: given,
                 ..self
             },
         }
@@ -255,9 +239,6 @@ fn named_setting(name: &str) -> Option<Setting>
     }
     if name == "--batch" {
         return Some(Setting::Batch);
-    }
-    if name == "--session" {
-        return Some(Setting::Session);
     }
     None
 }
